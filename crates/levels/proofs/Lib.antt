@@ -1,0 +1,5 @@
+pub mod Lowest
+pub mod Stack
+pub mod Recording
+pub mod Meeting
+pub mod Packing

@@ -1,0 +1,3 @@
+mod Places
+mod Parts
+pub mod Decimal

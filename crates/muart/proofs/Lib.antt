@@ -1,0 +1,3 @@
+mod Bytes
+mod Looking
+pub mod Jumping

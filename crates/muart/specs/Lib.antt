@@ -1,0 +1,13 @@
+pub mod Refusals
+pub mod Words
+pub mod Bus
+pub mod Ports
+pub mod Reading
+pub mod Looks
+pub mod State
+pub mod Bounds
+pub mod Pulses
+pub mod Firing
+pub mod Clock
+pub mod Writing
+pub mod PinCalls

@@ -1,0 +1,48 @@
+-- The stand-in with one part replaced.
+use Prim.Native.Nat.{ℕ}
+use mathlib.Core.Bool.{Bool}
+use mathlib.Core.List.{List}
+use Rattle.std.specs.declared.option.Option.{Option}
+use Rattle.timers.specs.declared.timers.Timers.{Timers}
+use Rattle.muart.specs.declared.state.Registers.{Registers}
+use Rattle.muart.specs.declared.state.Pins.{Pins}
+use Rattle.muart.specs.declared.state.Dividers.{Dividers}
+use Rattle.muart.specs.declared.state.Sensitive.{Sensitive}
+use Rattle.muart.specs.declared.state.Rest.{Rest}
+use Rattle.muart.specs.declared.state.StandIn.{StandIn}
+
+abbrev pub with-rest : Rest → StandIn → StandIn
+with-rest r s = record { rest = r; sensitive = s .sensitive }
+
+abbrev pub with-sensitive : Sensitive → StandIn → StandIn
+with-sensitive v s = record { rest = s .rest; sensitive = v }
+
+abbrev pub with-registers : Registers → StandIn → StandIn
+with-registers g s = with-rest (record { registers = g; pins = s .rest .pins; mask = s .rest .mask; begun = s .rest .begun; timers = s .rest .timers; dividers = s .rest .dividers; received = s .rest .received }) s
+
+abbrev pub with-pins : Pins → StandIn → StandIn
+with-pins p s = with-rest (record { registers = s .rest .registers; pins = p; mask = s .rest .mask; begun = s .rest .begun; timers = s .rest .timers; dividers = s .rest .dividers; received = s .rest .received }) s
+
+abbrev pub with-mask : List Bool → StandIn → StandIn
+with-mask m s = with-rest (record { registers = s .rest .registers; pins = s .rest .pins; mask = m; begun = s .rest .begun; timers = s .rest .timers; dividers = s .rest .dividers; received = s .rest .received }) s
+
+abbrev pub with-begun : Option ℕ → StandIn → StandIn
+with-begun b s = with-rest (record { registers = s .rest .registers; pins = s .rest .pins; mask = s .rest .mask; begun = b; timers = s .rest .timers; dividers = s .rest .dividers; received = s .rest .received }) s
+
+abbrev pub with-timers : Timers → StandIn → StandIn
+with-timers t s = with-rest (record { registers = s .rest .registers; pins = s .rest .pins; mask = s .rest .mask; begun = s .rest .begun; timers = t; dividers = s .rest .dividers; received = s .rest .received }) s
+
+abbrev pub with-dividers : Dividers → StandIn → StandIn
+with-dividers d s = with-rest (record { registers = s .rest .registers; pins = s .rest .pins; mask = s .rest .mask; begun = s .rest .begun; timers = s .rest .timers; dividers = d; received = s .rest .received }) s
+
+abbrev pub with-prescaler : ℕ → StandIn → StandIn
+with-prescaler n s = with-dividers (record { prescaler = record { at = n }; steps = s .rest .dividers .steps }) s
+
+abbrev pub with-steps : ℕ → StandIn → StandIn
+with-steps n s = with-dividers (record { prescaler = s .rest .dividers .prescaler; steps = record { at = n } }) s
+
+abbrev pub with-requests : List Bool → StandIn → StandIn
+with-requests q s = with-sensitive (record { levels = record { requests = q; service = s .sensitive .levels .service }; flags = s .sensitive .flags }) s
+
+abbrev pub with-service : List Bool → StandIn → StandIn
+with-service v s = with-sensitive (record { levels = record { requests = s .sensitive .levels .requests; service = v }; flags = s .sensitive .flags }) s

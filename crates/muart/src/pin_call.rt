@@ -1,0 +1,131 @@
+// Setting the outside level of a pin.
+ghost use mathlib.Core.Path.{_≡_};
+ghost use Prim.Native.Nat.{_<_};
+ghost use lib.ListN.{set};
+ghost use Rattle.muart.specs.Bounds.{Sound};
+ghost use Rattle.muart.specs.Ports.{placed};
+ghost use Rattle.muart.specs.PinCalls.{set-outside, counts-two, counts-three, calls-one, rise as rise-of, fall as fall-of, pin-set, pin-tested, pin-answer, pin-leaves};
+use crate::firing::record_fired;
+use crate::firing::timer_modes;
+use crate::pins::Pin;
+use crate::pins::drives;
+use crate::pins::outside_level;
+use crate::refusal::Refusal;
+use crate::state::Pins;
+use crate::state::StandIn;
+use crate::words::bit;
+
+fn set_outside(pins: &mut Pins, pin: Pin, level: bool)
+    requires { ⌜ placed pin ⌝ }
+    ensures { λ _. ⌜ now (pins .exit) ≡ set-outside pin level (now (pins .entry)) ⌝ }
+{
+    match pin {
+        Pin::Port1(place) => pins.port1[place as usize] = level,
+        Pin::Port2(place) => pins.port2[place as usize] = level,
+        Pin::Cts => pins.cts = level,
+        Pin::Extint => pins.extint = level,
+    }
+}
+
+impl StandIn {
+    fn count_two(&mut self)
+        requires { ⌜ Sound (now self) ⌝ }
+        ensures after { λ _. ⌜ now (self .exit) ≡ counts-two (now (self .entry)) ⌝ }
+        ensures sound { λ _. ⌜ Sound (now (self .exit)) ⌝ }
+    {
+        let fired = self.rest.timers.count_two(timer_modes(&self.rest.registers));
+        record_fired(
+            &self.rest.registers,
+            &mut self.rest.mask,
+            &mut self.sensitive.levels.requests,
+            fired,
+        );
+    }
+
+    fn count_three(&mut self)
+        requires { ⌜ Sound (now self) ⌝ }
+        ensures after { λ _. ⌜ now (self .exit) ≡ counts-three (now (self .entry)) ⌝ }
+        ensures sound { λ _. ⌜ Sound (now (self .exit)) ⌝ }
+    {
+        let fired = self.rest.timers.count_three(timer_modes(&self.rest.registers));
+        record_fired(
+            &self.rest.registers,
+            &mut self.rest.mask,
+            &mut self.sensitive.levels.requests,
+            fired,
+        );
+    }
+
+    fn call_one(&mut self)
+        requires { ⌜ Sound (now self) ⌝ }
+        ensures after { λ _. ⌜ now (self .exit) ≡ calls-one (now (self .entry)) ⌝ }
+        ensures sound { λ _. ⌜ Sound (now (self .exit)) ⌝ }
+    {
+        let biti = bit(self.rest.registers.command1, 2);
+        levels::request_if(
+            &mut self.sensitive.levels.requests,
+            &self.rest.mask,
+            1,
+            biti,
+        );
+    }
+
+    // P12 and P13 count, P17 requests.
+    fn rise(&mut self, pin: Pin)
+        requires { ⌜ Sound (now self) ⌝ }
+        ensures after { λ _. ⌜ now (self .exit) ≡ rise-of pin (now (self .entry)) ⌝ }
+        ensures sound { λ _. ⌜ Sound (now (self .exit)) ⌝ }
+    {
+        match pin {
+            Pin::Port1(2) => self.count_two(),
+            Pin::Port1(3) => self.count_three(),
+            Pin::Port1(7) => self.call_one(),
+            _ => {}
+        }
+    }
+
+    // P15 triggers timer 5.
+    fn fall(&mut self, pin: Pin)
+        requires { ⌜ Sound (now self) ⌝ }
+        ensures after { λ _. ⌜ now (self .exit) ≡ fall-of pin (now (self .entry)) ⌝ }
+        ensures sound { λ _. ⌜ Sound (now (self .exit)) ⌝ }
+    {
+        if let Pin::Port1(5) = pin {
+            self.rest.timers.trigger(timer_modes(&self.rest.registers));
+        }
+    }
+
+    // Only a change of the level makes an edge.
+    fn set_level(&mut self, pin: Pin, level: bool)
+        requires sound { ⌜ Sound (now self) ⌝ }
+        requires placed { ⌜ placed pin ⌝ }
+        ensures after { λ _. ⌜ now (self .exit) ≡ pin-set pin level (now (self .entry)) ⌝ }
+        ensures sound { λ _. ⌜ Sound (now (self .exit)) ⌝ }
+    {
+        if outside_level(&self.rest.pins, pin) == level {
+            return;
+        }
+        set_outside(&mut self.rest.pins, pin, level);
+        if level {
+            self.rise(pin);
+        } else {
+            self.fall(pin);
+        }
+    }
+
+    pub fn set_pin(&mut self, code: u8, level: bool) -> Result<(), Refusal>
+        requires { ⌜ Sound (now self) ⌝ }
+        ensures answer { λ r. ⌜ r ≡ pin-answer (pin-tested code (now (self .entry))) ⌝ }
+        ensures after { λ _. ⌜ now (self .exit) ≡ pin-leaves (pin-tested code (now (self .entry))) level (now (self .entry)) ⌝ }
+        ensures sound { λ _. ⌜ Sound (now (self .exit)) ⌝ }
+    {
+        let Some(pin) = Pin::coded(code) else {
+            return Err(Refusal::NoSuchPin);
+        };
+        if drives(&self.rest.registers, pin) {
+            return Err(Refusal::OutputPin);
+        }
+        self.set_level(pin, level);
+        Ok(())
+    }
+}

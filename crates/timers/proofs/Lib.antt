@@ -1,0 +1,4 @@
+pub mod Lowering
+pub mod Laps
+pub mod Waits
+pub mod Steps

@@ -1,0 +1,4 @@
+pub mod Counts
+pub mod Duos
+pub mod Stepping
+pub mod Access
