@@ -1,3 +1,5 @@
 mod Bytes
 mod Looking
+pub mod QuietFiring
+pub mod BareMotion
 pub mod Jumping

@@ -8,6 +8,7 @@ pub mod State
 pub mod Bounds
 pub mod Pulses
 pub mod Firing
+pub mod Serial
 pub mod Clock
 pub mod Writing
 pub mod PinCalls

@@ -20,6 +20,7 @@ use Rattle.muart.specs.declared.state.StandIn.{StandIn}
 use Rattle.muart.specs.Ports.{pin-of, is-output, outside}
 use Rattle.muart.specs.Firing.{modes-of, biti-of, request-if}
 use Rattle.muart.specs.State.{with-pins, with-timers, with-requests}
+use Rattle.muart.specs.Serial.{cts-fell}
 use Rattle.muart.specs.Clock.{timers-moved}
 
 -- the outside levels with one pin's set
@@ -56,7 +57,7 @@ rise Extint s = s
 abbrev pub fall : Pin → StandIn → StandIn
 fall (Port1 n) s = cond (eqb n 5) (triggers s) s
 fall (Port2 n) s = s
-fall Cts s = s
+fall Cts s = cts-fell s
 fall Extint s = s
 
 -- the level set from outside: only a change makes an edge

@@ -1,12 +1,14 @@
 -- What the registers read, and what reading them disturbs.
 use Prim.Native.Nat.{ℕ, _+_, _*_}
-use mathlib.Core.Bool.{Bool, true, false, cond}
+use mathlib.Core.Bool.{Bool, true, false, not, cond}
 use Rattle.std.specs.declared.option.Option.{Option}
 use Rattle.std.specs.declared.option.Option.the-variants.{Some, None}
 use Rattle.std.specs.Options.{isSome}
 use Rattle.levels.specs.Levels.{due, taken}
 use Rattle.levels.specs.Bytes.{byte}
 use Rattle.timers.specs.Access.{countOf}
+use Rattle.serial.specs.declared.transmitter.Transmitter.{Transmitter}
+use Rattle.serial.specs.Sending.{idle}
 use Rattle.muart.specs.declared.state.Control.{Control}
 use Rattle.muart.specs.declared.state.Flags.{Flags}
 use Rattle.muart.specs.declared.state.Rest.{Rest}
@@ -32,9 +34,17 @@ weighs b w = cond b w 0
 abbrev pub control-byte : Control → ℕ
 control-byte c = weighs (c .rxe) 64 + weighs (c .iae) 32 + weighs (c .nie) 16
 
--- status bits 7 to 0 are INT, RBF, TBE, TRE, BD, PE, OE, FE; TBE and TRE stand at 1
-abbrev pub status-byte : Bool → Flags → ℕ
-status-byte int f = weighs int 128 + weighs (f .rbf) 64 + 32 + 16 + weighs (f .bd) 8 + weighs (f .pe) 4 + weighs (f .oe) 2 + weighs (f .fe) 1
+-- TBE is 1 while the transmit buffer is empty, TRE while nothing is sent
+abbrev pub sending-bits : Transmitter → ℕ
+sending-bits t = weighs (not (isSome (t .buffer))) 32 + weighs (idle (t .phase)) 16
+
+-- BD, PE, OE and FE
+abbrev pub error-bits : Flags → ℕ
+error-bits f = weighs (f .bd) 8 + weighs (f .pe) 4 + weighs (f .oe) 2 + weighs (f .fe) 1
+
+-- status bits 7 to 0 are INT, RBF, TBE, TRE, BD, PE, OE, FE
+abbrev pub status-byte : Bool → Transmitter → Flags → ℕ
+status-byte int t f = weighs int 128 + weighs (f .rbf) 64 + sending-bits t + error-bits f
 
 -- the interrupt address is 4 × level, or 255 if INT is low
 abbrev pub address-byte : Option ℕ → ℕ
@@ -50,10 +60,10 @@ read-byte Mode r s = r .registers .mode
 read-byte Port1Control r s = r .registers .direction1
 read-byte Mask r s = byte (r .mask)
 read-byte InterruptAddress r s = address-byte (ready-level r s)
-read-byte Buffer r s = r .received
+read-byte Buffer r s = r .serial .received
 read-byte (Pins port) r s = port-byte (r .registers) (r .pins) port
 read-byte (Timer n) r s = countOf n (r .timers)
-read-byte Status r s = status-byte (int-high r s) (s .flags)
+read-byte Status r s = status-byte (int-high r s) (r .serial .transmitter) (s .flags)
 
 -- the level that a read takes
 abbrev pub read-takes : Register → Rest → Sensitive → Option ℕ

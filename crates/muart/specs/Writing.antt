@@ -23,7 +23,12 @@ use Rattle.muart.specs.declared.state.Dividers.{Dividers}
 use Rattle.muart.specs.declared.state.StandIn.{StandIn}
 use Rattle.muart.specs.declared.state.Pins as pins
 use Rattle.muart.specs.Words.{bit-of, lawful1, lawful2, lawful3, lawful-mode}
-use Rattle.muart.specs.State.{with-registers, with-mask, with-timers, with-dividers, with-requests, with-service}
+use Rattle.muart.specs.State.{with-registers, with-mask, with-timers, with-dividers, with-requests, with-service, with-receiver}
+use Rattle.muart.specs.Serial.{sent}
+use Rattle.muart.specs.declared.state.Serial.{Serial}
+use Rattle.serial.specs.Sending.{fresh}
+use Rattle.serial.specs.declared.receiver.Receiver.{Receiver}
+use Rattle.serial.specs.declared.receiver.Receiver.the-variants.{Idle}
 
 -- no level
 abbrev pub no-level : List Bool
@@ -35,17 +40,25 @@ no-words = record { command1 = 0; command2 = 0; control = record { rxe = false; 
 
 -- every divider zero
 abbrev pub no-phase : Dividers
-no-phase = record { prescaler = record { at = 0 }; steps = record { at = 0 } }
+no-phase = record { prescaler = record { at = 0 }; steps = record { at = 0 }; remainder = record { at = 0 } }
 
--- what a reset leaves: all zero but the outside levels of the pins
-abbrev pub reset-to : pins.Pins → StandIn
-reset-to p = record {
-    rest = record { registers = no-words; pins = p; mask = no-level; begun = None; timers = clearedTimers; dividers = no-phase; received = 0 };
+-- the serial side with nothing sent and nothing received
+abbrev pub no-characters : Bool → Serial
+no-characters v = record { transmitter = fresh; receiver = Idle; received = 0; rxd = v }
+
+-- what a reset leaves: all zero but the outside levels of the pins and the level of RxD
+abbrev pub reset-to : pins.Pins → Bool → StandIn
+reset-to p v = record {
+    rest = record { registers = no-words; pins = p; mask = no-level; begun = None; timers = clearedTimers; dividers = no-phase; serial = no-characters v };
     sensitive = record { levels = record { requests = no-level; service = no-level }; flags = record { rbf = false; bd = false; pe = false; oe = false; fe = false } } }
 
--- at power-up the outside levels are 0 too
-abbrev pub powered-up : StandIn
-powered-up = reset-to (record { port1 = no-level; port2 = no-level; cts = false; extint = false })
+-- a reset
+abbrev pub was-reset : StandIn → StandIn
+was-reset s = reset-to (s .rest .pins) (s .rest .serial .rxd)
+
+-- at power-up the outside levels are 0 too, and RxD has the level that the line has
+abbrev pub powered-up : Bool → StandIn
+powered-up v = reset-to (record { port1 = no-level; port2 = no-level; cts = false; extint = false }) v
 
 -- which words a register refuses
 abbrev pub lawful : Register → ℕ → Bool
@@ -79,14 +92,18 @@ clears-nie w = bit-of 4 w && not (bit-of 7 w)
 abbrev pub left-in-service : ℕ → List Bool → List Bool
 left-in-service w service = cond (clears-nie w) no-level (cond (bit-of 3 w) (ended service) service)
 
+-- clearing RxE idles the receiver
+abbrev pub left-receiving : ℕ → Receiver → Receiver
+left-receiving w r = cond (bit-of 6 w && not (bit-of 7 w)) Idle r
+
 -- a word with bits 7 and 0 resets, and nothing else in it counts
 abbrev pub resets : ℕ → Bool
 resets w = bit-of 7 w && bit-of 0 w
 
 abbrev pub commanded3 : ℕ → StandIn → StandIn
 commanded3 w s =
-    cond (resets w) (reset-to (s .rest .pins))
-    (with-control (controlled w (s .rest .registers .control)) (with-service (left-in-service w (s .sensitive .levels .service)) s))
+    cond (resets w) (was-reset s)
+    (with-control (controlled w (s .rest .registers .control)) (with-service (left-in-service w (s .sensitive .levels .service)) (with-receiver (left-receiving w (s .rest .serial .receiver)) s)))
 
 -- a command 1 or 2 zeroes the dividers
 abbrev pub commanded1 : ℕ → StandIn → StandIn
@@ -121,7 +138,7 @@ stored Mode w s = mode-set w s
 stored Port1Control w s = direction-set w s
 stored Mask w s = with-mask (union (s .rest .mask) (flags w)) s
 stored InterruptAddress w s = disabled w s
-stored Buffer w s = s
+stored Buffer w s = sent w s
 stored (Pins port) w s = latch-set port w s
 stored (Timer n) w s = with-timers (timer-written n w (bit-of 5 (s .rest .registers .mode)) (s .rest .timers)) s
 stored Status w s = s

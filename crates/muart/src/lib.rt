@@ -9,6 +9,7 @@ pub mod read;
 pub mod look;
 pub mod pulse;
 pub mod firing;
+pub mod serial_side;
 pub mod clock;
 pub mod write;
 pub mod pin_call;

@@ -84,14 +84,16 @@ impl StandIn {
         }
     }
 
-    // P15 triggers timer 5.
+    // P15 triggers timer 5, and CTS lets a character load.
     fn fall(&mut self, pin: Pin)
         requires { ⌜ Sound (now self) ⌝ }
         ensures after { λ _. ⌜ now (self .exit) ≡ fall-of pin (now (self .entry)) ⌝ }
         ensures sound { λ _. ⌜ Sound (now (self .exit)) ⌝ }
     {
-        if let Pin::Port1(5) = pin {
-            self.rest.timers.trigger(timer_modes(&self.rest.registers));
+        match pin {
+            Pin::Port1(5) => self.rest.timers.trigger(timer_modes(&self.rest.registers)),
+            Pin::Cts => self.release(),
+            _ => {}
         }
     }
 

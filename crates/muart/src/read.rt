@@ -1,12 +1,14 @@
 // Reading a register.
 ghost use mathlib.Core.Path.{_≡_};
-ghost use Rattle.muart.specs.Reading.{control-byte, status-byte, int-high, reading, read-leaves};
+ghost use Prim.Native.Nat.{_≤_};
+ghost use Rattle.muart.specs.Reading.{weighs, control-byte, sending-bits, error-bits, status-byte, int-high, reading, read-leaves};
 use crate::pins::read_port;
 use crate::register::Register;
 use crate::state::Control;
 use crate::state::Flags;
 use crate::state::Rest;
 use crate::state::Sensitive;
+use serial::transmitter::Transmitter;
 
 // What a read answers, and the level that it took.
 #[derive(Clone, Copy)]
@@ -26,18 +28,36 @@ pub fn interrupts(rest: &Rest, sensitive: &Sensitive) -> bool
 fn control_byte(control: &Control) -> u8
     ensures { λ r. ⌜ r ≡ control-byte (now (control .entry)) ⌝ }
 {
-    64 * u8::from(control.rxe) + 32 * u8::from(control.iae) + 16 * u8::from(control.nie)
+    weigh(control.rxe, 64) + weigh(control.iae, 32) + weigh(control.nie, 16)
 }
 
-// Nothing is sent yet, so TBE and TRE stand at 1.
-fn status_byte(int: bool, flags: &Flags) -> u8
-    ensures { λ r. ⌜ r ≡ status-byte int (now (flags .entry)) ⌝ }
+// What a status or control bit is worth.
+fn weigh(on: bool, weight: u8) -> u8
+    ensures value { λ r. ⌜ r ≡ weighs on weight ⌝ }
+    ensures bound { λ r. ⌜ r ≤ weight ⌝ }
 {
-    let errors = 8 * u8::from(flags.bd)
-        + 4 * u8::from(flags.pe)
-        + 2 * u8::from(flags.oe)
-        + u8::from(flags.fe);
-    128 * u8::from(int) + 64 * u8::from(flags.rbf) + 48 + errors
+    if on { weight } else { 0 }
+}
+
+fn sending_bits(transmitter: &Transmitter) -> u8
+    ensures value { λ r. ⌜ r ≡ sending-bits (now (transmitter .entry)) ⌝ }
+    ensures bound { λ r. ⌜ r ≤ 48 ⌝ }
+{
+    weigh(transmitter.tbe(), 32) + weigh(transmitter.tre(), 16)
+}
+
+fn error_bits(flags: &Flags) -> u8
+    ensures value { λ r. ⌜ r ≡ error-bits (now (flags .entry)) ⌝ }
+    ensures bound { λ r. ⌜ r ≤ 15 ⌝ }
+{
+    weigh(flags.bd, 8) + weigh(flags.pe, 4) + weigh(flags.oe, 2) + weigh(flags.fe, 1)
+}
+
+fn status_byte(int: bool, transmitter: &Transmitter, flags: &Flags) -> u8
+    ensures { λ r. ⌜ r ≡ status-byte int (now (transmitter .entry)) (now (flags .entry)) ⌝ }
+{
+    let sending = sending_bits(transmitter);
+    weigh(int, 128) + weigh(flags.rbf, 64) + sending + error_bits(flags)
 }
 
 fn read_interrupt_address(rest: &Rest, sensitive: &mut Sensitive) -> Reading
@@ -61,7 +81,7 @@ fn read_status(rest: &Rest, sensitive: &mut Sensitive) -> Reading
     ensures after { λ _. ⌜ now (sensitive .exit) ≡ read-leaves Register.Status (now (rest .entry)) (now (sensitive .entry)) ⌝ }
 {
     let int = interrupts(rest, sensitive);
-    let byte = status_byte(int, &sensitive.flags);
+    let byte = status_byte(int, &rest.serial.transmitter, &sensitive.flags);
     let rbf = sensitive.flags.rbf;
     sensitive.flags = Flags {
         rbf,
@@ -79,7 +99,7 @@ fn read_buffer(rest: &Rest, sensitive: &mut Sensitive) -> Reading
 {
     sensitive.flags.rbf = false;
     Reading {
-        byte: rest.received,
+        byte: rest.serial.received,
         taken: None,
     }
 }

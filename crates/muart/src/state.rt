@@ -1,5 +1,7 @@
 // What the stand-in holds.
 use levels::Pending;
+use serial::receiver::Receiver;
+use serial::transmitter::Transmitter;
 use timers::Timers;
 use timing::Accumulator;
 
@@ -32,11 +34,21 @@ pub struct Pins {
     pub extint: bool,
 }
 
-// The prescaler counts system clocks, the step divider internal clocks.
+// The prescaler counts system clocks, the step divider internal clocks; the remainder is what the baud rate left over.
 #[derive(Clone, Copy)]
 pub struct Dividers {
     pub prescaler: Accumulator,
     pub steps: Accumulator,
+    pub remainder: Accumulator,
+}
+
+// The serial side. `received` is the receive buffer; the level of RxD survives a reset.
+#[derive(Clone, Copy)]
+pub struct Serial {
+    pub transmitter: Transmitter,
+    pub receiver: Receiver,
+    pub received: u8,
+    pub rxd: bool,
 }
 
 // The receiver's five flags: receive buffer full, break detected, parity error, overrun error, framing error.
@@ -65,7 +77,7 @@ pub struct Rest {
     pub begun: Option<u8>,
     pub timers: Timers,
     pub dividers: Dividers,
-    pub received: u8,
+    pub serial: Serial,
 }
 
 #[derive(Clone, Copy)]

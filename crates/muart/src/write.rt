@@ -1,7 +1,7 @@
 // Power-up, reset, and writing a register.
 ghost use mathlib.Core.Path.{_≡_};
 ghost use Rattle.muart.specs.Bounds.{Sound};
-ghost use Rattle.muart.specs.Writing.{reset-to, powered-up, lawful as is-lawful, controlled, left-in-service, commanded3, stored, write-answer, write-leaves};
+ghost use Rattle.muart.specs.Writing.{reset-to, was-reset, powered-up, lawful as is-lawful, controlled, left-in-service, left-receiving, commanded3, stored, write-answer, write-leaves};
 use crate::pins::Port;
 use crate::refusal::Refusal;
 use crate::register::Register;
@@ -12,6 +12,7 @@ use crate::state::Pins;
 use crate::state::Registers;
 use crate::state::Rest;
 use crate::state::Sensitive;
+use crate::state::Serial;
 use crate::state::StandIn;
 use crate::words::bit;
 use crate::words::lawful_command1;
@@ -19,12 +20,15 @@ use crate::words::lawful_command2;
 use crate::words::lawful_command3;
 use crate::words::lawful_mode;
 use levels::Pending;
+use serial::receiver::Receiver;
+use serial::transmitter::Transmitter;
 use timers::Timers;
 use timing::Accumulator;
 
 const NO_PHASE: Dividers = Dividers {
     prescaler: Accumulator { at: 0 },
     steps: Accumulator { at: 0 },
+    remainder: Accumulator { at: 0 },
 };
 
 const NO_WORDS: Registers = Registers {
@@ -77,9 +81,18 @@ fn serve_word(service: &mut [bool; 8], word: u8)
     }
 }
 
+// Clearing RxE idles the receiver.
+fn listen_on(receiver: &mut Receiver, word: u8)
+    ensures after { λ _. ⌜ now (receiver .exit) ≡ left-receiving word (now (receiver .entry)) ⌝ }
+{
+    if bit(word, 6) && !bit(word, 7) {
+        receiver.disable();
+    }
+}
+
 impl StandIn {
-    fn cleared(pins: Pins) -> StandIn
-        ensures after { λ r. ⌜ r ≡ reset-to pins ⌝ }
+    fn cleared(pins: Pins, rxd: bool) -> StandIn
+        ensures after { λ r. ⌜ r ≡ reset-to pins rxd ⌝ }
         ensures sound { λ r. ⌜ Sound r ⌝ }
     {
         StandIn {
@@ -90,7 +103,12 @@ impl StandIn {
                 begun: None,
                 timers: Timers::new(),
                 dividers: NO_PHASE,
-                received: 0,
+                serial: Serial {
+                    transmitter: Transmitter::new(),
+                    receiver: Receiver::new(),
+                    received: 0,
+                    rxd,
+                },
             },
             sensitive: Sensitive {
                 levels: Pending {
@@ -108,26 +126,27 @@ impl StandIn {
         }
     }
 
-    pub fn power_up() -> StandIn
-        ensures after { λ r. ⌜ r ≡ powered-up ⌝ }
+    pub fn power_up(rxd: bool) -> StandIn
+        ensures after { λ r. ⌜ r ≡ powered-up rxd ⌝ }
         ensures sound { λ r. ⌜ Sound r ⌝ }
     {
-        StandIn::cleared(Pins {
+        let pins = Pins {
             port1: [false; 8],
             port2: [false; 8],
             cts: false,
             extint: false,
-        })
+        };
+        StandIn::cleared(pins, rxd)
     }
 
     // Tells the levels that were in service.
     pub fn reset(&mut self) -> [bool; 8]
         ensures closed { λ r. ⌜ r ≡ now (self .entry) .sensitive .levels .service ⌝ }
-        ensures after { λ _. ⌜ now (self .exit) ≡ reset-to (now (self .entry) .rest .pins) ⌝ }
+        ensures after { λ _. ⌜ now (self .exit) ≡ was-reset (now (self .entry)) ⌝ }
         ensures sound { λ _. ⌜ Sound (now (self .exit)) ⌝ }
     {
         let closed = self.sensitive.levels.service;
-        *self = StandIn::cleared(self.rest.pins);
+        *self = StandIn::cleared(self.rest.pins, self.rest.serial.rxd);
         closed
     }
 
@@ -137,10 +156,11 @@ impl StandIn {
         ensures sound { λ _. ⌜ Sound (now (self .exit)) ⌝ }
     {
         if bit(word, 7) && bit(word, 0) {
-            *self = StandIn::cleared(self.rest.pins);
+            *self = StandIn::cleared(self.rest.pins, self.rest.serial.rxd);
             return;
         }
         serve_word(&mut self.sensitive.levels.service, word);
+        listen_on(&mut self.rest.serial.receiver, word);
         self.rest.registers.control = control_after(word, self.rest.registers.control);
     }
 
@@ -176,7 +196,8 @@ impl StandIn {
             Register::Pins(Port::One) => self.rest.registers.latch1 = word,
             Register::Pins(Port::Two) => self.rest.registers.latch2 = word,
             Register::Timer(number) => self.rest.timers.write(number, word, t5c),
-            Register::Buffer | Register::Status => {}
+            Register::Buffer => self.send(word),
+            Register::Status => {}
         }
     }
 

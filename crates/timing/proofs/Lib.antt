@@ -1,3 +1,4 @@
 pub mod Repeats
 pub mod Turns
 pub mod Driven
+pub mod Bare
