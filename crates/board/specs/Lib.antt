@@ -1,2 +1,4 @@
-pub mod State
+pub mod Marks
+pub mod Views
 pub mod Perform
+pub mod Histories

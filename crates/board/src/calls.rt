@@ -1,27 +1,155 @@
-// Every call that a host, the wiring or an engineer makes of a board. None asks anything of its caller.
+// Every call that is made of a board. None asks anything of its caller.
 ghost use mathlib.Core.Path.{_≡_};
-ghost use mathlib.Core.Bool.{false};
-ghost use Rattle.std.specs.Vec.{made};
-ghost use Rattle.board.specs.State.{view};
-ghost use Rattle.board.specs.Perform.{read as read-call, write as write-call, pulse, first-pulse, second-pulse, pin, span as span-call, look as look-call, snapshot as snapshot-call, reset as reset-call, done, looked, counts, byte-answer, plain-answer, answered, after};
-use crate::core_board::Core;
+ghost use Rattle.board.specs.Views.{view};
+ghost use Rattle.board.specs.Perform.{read as read-call, write as write-call, pulse, first-pulse, second-pulse, pin, span as span-call, look as look-call, snapshot as snapshot-call, reset as reset-call, done, looked, counts, byte-answer, plain-answer, answered, perform, state, started};
+use crate::inner::Inner;
+use crate::marks::ServiceMark;
+use crate::marks::WireMark;
 use crate::sealed::Board;
+use line::Partner;
 use muart::latch::Latched;
-use muart::look::look;
 use muart::pulse::Half;
-use muart::read::read;
 use muart::refusal::Refusal;
-use muart::words::Family;
+use muart::state::StandIn;
+use recorder::Recorder;
 
-const LONGEST_SPAN: u64 = 16_777_216;
-const LAST_CLOCK: u64 = 500_000_000_000_000;
-
-impl Board {
-    // One bus cycle that reads.
-    pub fn read(&mut self, latched: Latched) -> Result<u8, Refusal>
-        ensures answer { λ r. ⌜ byte-answer r ≡ answered (read-call latched) (view (now (self .entry) .core)) ⌝ }
-        ensures state { λ _. ⌜ view (now (self .exit) .core) ≡ after (read-call latched) (view (now (self .entry) .core)) ⌝ }
+impl<P: Partner> Board<P> {
+    // RxD has the partner's level, and the clock number is 0.
+    pub fn power_up(partner: P) -> Board<P>
+        ensures { λ r. ⌜ view (P·Partner .meaning) (r .inner) ≡ started (P·Partner .meaning partner) ⌝ }
     {
-        self.core.read(latched)
+        let unit = StandIn::power_up(partner.level());
+        Board {
+            inner: Inner {
+                unit,
+                partner,
+                clock: 0,
+            },
+        }
+    }
+
+    // The clock number.
+    pub fn clock(&self) -> u64
+        ensures { λ r. ⌜ r ≡ now (self .entry) .inner .clock ⌝ }
+    {
+        self.inner.clock
+    }
+
+    // One bus cycle that reads. It uses the latched address up.
+    pub fn read(
+        &mut self,
+        latched: Latched,
+        wires: &mut Recorder<'_, WireMark>,
+        services: &mut Recorder<'_, ServiceMark>,
+    ) -> Result<u8, Refusal>
+        ensures answer { λ r. ⌜ byte-answer r ≡ perform (read-call latched) (state (P·Partner .meaning) (now (self .entry) .inner) (now (wires .entry)) (now (services .entry))) .1 ⌝ }
+        ensures state { λ _. ⌜ state (P·Partner .meaning) (now (self .exit) .inner) (now (wires .exit)) (now (services .exit)) ≡ perform (read-call latched) (state (P·Partner .meaning) (now (self .entry) .inner) (now (wires .entry)) (now (services .entry))) .0 ⌝ }
+    {
+        self.inner.read(latched, wires, services)
+    }
+
+    // One bus cycle that writes. It uses the latched address up.
+    pub fn write(
+        &mut self,
+        latched: Latched,
+        word: u8,
+        wires: &mut Recorder<'_, WireMark>,
+        services: &mut Recorder<'_, ServiceMark>,
+    ) -> Result<(), Refusal>
+        ensures answer { λ r. ⌜ plain-answer r ≡ perform (write-call latched word) (state (P·Partner .meaning) (now (self .entry) .inner) (now (wires .entry)) (now (services .entry))) .1 ⌝ }
+        ensures state { λ _. ⌜ state (P·Partner .meaning) (now (self .exit) .inner) (now (wires .exit)) (now (services .exit)) ≡ perform (write-call latched word) (state (P·Partner .meaning) (now (self .entry) .inner) (now (wires .entry)) (now (services .entry))) .0 ⌝ }
+    {
+        self.inner.write(latched, word, wires, services)
+    }
+
+    // The single acknowledge pulse of the 8085 family.
+    pub fn acknowledge(
+        &mut self,
+        wires: &mut Recorder<'_, WireMark>,
+        services: &mut Recorder<'_, ServiceMark>,
+    ) -> Result<u8, Refusal>
+        ensures answer { λ r. ⌜ byte-answer r ≡ perform pulse (state (P·Partner .meaning) (now (self .entry) .inner) (now (wires .entry)) (now (services .entry))) .1 ⌝ }
+        ensures state { λ _. ⌜ state (P·Partner .meaning) (now (self .exit) .inner) (now (wires .exit)) (now (services .exit)) ≡ perform pulse (state (P·Partner .meaning) (now (self .entry) .inner) (now (wires .entry)) (now (services .entry))) .0 ⌝ }
+    {
+        self.inner.acknowledge(wires, services)
+    }
+
+    // The first acknowledge pulse of the 8086 family. The half that it leaves must be handed in with the second.
+    pub fn begin_acknowledge(
+        &mut self,
+        wires: &mut Recorder<'_, WireMark>,
+        services: &mut Recorder<'_, ServiceMark>,
+    ) -> Result<Half, Refusal>
+        ensures answer { λ r. ⌜ plain-answer r ≡ perform first-pulse (state (P·Partner .meaning) (now (self .entry) .inner) (now (wires .entry)) (now (services .entry))) .1 ⌝ }
+        ensures state { λ _. ⌜ state (P·Partner .meaning) (now (self .exit) .inner) (now (wires .exit)) (now (services .exit)) ≡ perform first-pulse (state (P·Partner .meaning) (now (self .entry) .inner) (now (wires .entry)) (now (services .entry))) .0 ⌝ }
+    {
+        self.inner.begin_acknowledge(wires, services)
+    }
+
+    // The second acknowledge pulse of the 8086 family. It spends the half, whatever it answers.
+    pub fn finish_acknowledge(
+        &mut self,
+        half: Half,
+        wires: &mut Recorder<'_, WireMark>,
+        services: &mut Recorder<'_, ServiceMark>,
+    ) -> Result<u8, Refusal>
+        ensures answer { λ r. ⌜ byte-answer r ≡ perform second-pulse (state (P·Partner .meaning) (now (self .entry) .inner) (now (wires .entry)) (now (services .entry))) .1 ⌝ }
+        ensures state { λ _. ⌜ state (P·Partner .meaning) (now (self .exit) .inner) (now (wires .exit)) (now (services .exit)) ≡ perform second-pulse (state (P·Partner .meaning) (now (self .entry) .inner) (now (wires .entry)) (now (services .entry))) .0 ⌝ }
+    {
+        self.inner.finish_acknowledge(half, wires, services)
+    }
+
+    // The outside level of a pin.
+    pub fn set_pin(
+        &mut self,
+        code: u8,
+        level: bool,
+        wires: &mut Recorder<'_, WireMark>,
+        services: &mut Recorder<'_, ServiceMark>,
+    ) -> Result<(), Refusal>
+        ensures answer { λ r. ⌜ plain-answer r ≡ perform (pin code level) (state (P·Partner .meaning) (now (self .entry) .inner) (now (wires .entry)) (now (services .entry))) .1 ⌝ }
+        ensures state { λ _. ⌜ state (P·Partner .meaning) (now (self .exit) .inner) (now (wires .exit)) (now (services .exit)) ≡ perform (pin code level) (state (P·Partner .meaning) (now (self .entry) .inner) (now (wires .entry)) (now (services .entry))) .0 ⌝ }
+    {
+        self.inner.set_pin(code, level, wires, services)
+    }
+
+    // A span of clocks.
+    pub fn span(
+        &mut self,
+        clocks: u64,
+        wires: &mut Recorder<'_, WireMark>,
+        services: &mut Recorder<'_, ServiceMark>,
+    ) -> Result<(), Refusal>
+        ensures answer { λ r. ⌜ plain-answer r ≡ perform (span-call clocks) (state (P·Partner .meaning) (now (self .entry) .inner) (now (wires .entry)) (now (services .entry))) .1 ⌝ }
+        ensures state { λ _. ⌜ state (P·Partner .meaning) (now (self .exit) .inner) (now (wires .exit)) (now (services .exit)) ≡ perform (span-call clocks) (state (P·Partner .meaning) (now (self .entry) .inner) (now (wires .entry)) (now (services .entry))) .0 ⌝ }
+    {
+        self.inner.span(clocks, wires, services)
+    }
+
+    // The reset pin.
+    pub fn reset(
+        &mut self,
+        wires: &mut Recorder<'_, WireMark>,
+        services: &mut Recorder<'_, ServiceMark>,
+    )
+        ensures answer { λ r. ⌜ done ≡ perform reset-call (state (P·Partner .meaning) (now (self .entry) .inner) (now (wires .entry)) (now (services .entry))) .1 ⌝ }
+        ensures state { λ _. ⌜ state (P·Partner .meaning) (now (self .exit) .inner) (now (wires .exit)) (now (services .exit)) ≡ perform reset-call (state (P·Partner .meaning) (now (self .entry) .inner) (now (wires .entry)) (now (services .entry))) .0 ⌝ }
+    {
+        self.inner.reset(wires, services);
+    }
+
+    // Reads the listed registers in turn, as the bus would, into the front of `place`, and disturbs nothing.
+    pub fn look(&mut self, registers: &[u8], place: &mut [u8]) -> Result<(), Refusal>
+        ensures answer { λ r. ⌜ looked r (now (place .exit)) ≡ answered (look-call (now (registers .entry)) (now (place .entry))) (view (P·Partner .meaning) (now (self .entry) .inner)) ⌝ }
+        ensures same { λ _. ⌜ now (self .exit) .inner ≡ now (self .entry) .inner ⌝ }
+    {
+        self.inner.look(registers, place)
+    }
+
+    // The five counts together.
+    pub fn snapshot(&self) -> [u8; 5]
+        ensures { λ r. ⌜ counts r ≡ answered snapshot-call (view (P·Partner .meaning) (now (self .entry) .inner)) ⌝ }
+    {
+        self.inner.unit.rest.timers.snapshot()
     }
 }

@@ -1,6 +1,12 @@
-// The board: the stand-in with its clock number, and every call that a host makes of it.
+// The board: the stand-in beside a line partner, and every call that is made of it.
 mod calls;
-mod core_board;
+mod inner;
+mod inner_calls;
+mod marks;
+mod running;
 mod sealed;
 
+pub use marks::Line;
+pub use marks::ServiceMark;
+pub use marks::WireMark;
 pub use sealed::Board;

@@ -51,7 +51,7 @@ step-quiet s q =
     let f = firing (modes-of (s .rest .registers)) (s .rest .timers) in
     λ i. record {
       rest = record { registers = s .rest .registers; pins = s .rest .pins; mask = levels-kept (s .rest .registers) f (s .rest .mask) (s .sensitive .levels .requests) q i; begun = s .rest .begun; timers = stepped (modes-of (s .rest .registers)) (s .rest .timers); dividers = s .rest .dividers; serial = s .rest .serial };
-      sensitive = record { levels = record { requests = requests-kept (s .rest .registers) f (s .rest .mask) (s .sensitive .levels .requests) q i; service = s .sensitive .levels .service }; flags = s .sensitive .flags }
+      sensitive = record { levels = record { requests = requests-kept (s .rest .registers) f (s .rest .mask) (s .sensitive .levels .requests) q i; service = s .sensitive .levels .service }; flags = s .sensitive .flags };
     }
 
 -- a rate tick that records nothing
@@ -63,13 +63,27 @@ tick-quiet s e t =
 -- the step divider drives the timers, and the remainder the serial side
 timers-driven : Drives (λ s. 1) divide-in (λ s. s .rest .dividers .steps .at) with-steps timer-bare
 timers-driven = record {
-    step-put = λ a s. refl; modulus-put = λ a s. refl; phase-put = λ a s. refl; put-put = λ a b s. refl; put-phase = λ s. refl;
-    step-move = λ s. refl; modulus-move = λ s. refl; move-put = λ a s. refl }
+  step-put = λ a s. refl;
+  modulus-put = λ a s. refl;
+  phase-put = λ a s. refl;
+  put-put = λ a b s. refl;
+  put-phase = λ s. refl;
+  step-move = λ s. refl;
+  modulus-move = λ s. refl;
+  move-put = λ a s. refl;
+}
 
 serial-driven : Drives rate-in (λ s. rate-modulus) (λ s. s .rest .dividers .remainder .at) with-remainder serial-bare
 serial-driven = record {
-    step-put = λ a s. refl; modulus-put = λ a s. refl; phase-put = λ a s. refl; put-put = λ a b s. refl; put-phase = λ s. refl;
-    step-move = λ s. refl; modulus-move = λ s. refl; move-put = λ a s. refl }
+  step-put = λ a s. refl;
+  modulus-put = λ a s. refl;
+  phase-put = λ a s. refl;
+  put-put = λ a b s. refl;
+  put-phase = λ s. refl;
+  step-move = λ s. refl;
+  modulus-move = λ s. refl;
+  move-put = λ a s. refl;
+}
 
 timers-many : (k : ℕ) (s : StandIn) → times k timer-bare s ≡ with-timers (times k (stepped (modes-of (s .rest .registers))) (s .rest .timers)) s
 timers-many zero s = refl
@@ -98,7 +112,7 @@ abbrev pub landing : ℕ → StandIn → StandIn
 landing k s =
     with-remainder (times k (next (rate-in s) rate-modulus) (s .rest .dividers .remainder .at))
     (with-both (times (turns (rate-in s) rate-modulus k (s .rest .dividers .remainder .at)) (ticked (form-in s) (s .rest .pins .cts)) (s .rest .serial .transmitter))
-      (times (turns (rate-in s) rate-modulus k (s .rest .dividers .remainder .at)) (passed (s .rest .serial .rxd)) (s .rest .serial .receiver))
+    (times (turns (rate-in s) rate-modulus k (s .rest .dividers .remainder .at)) (passed (s .rest .serial .rxd)) (s .rest .serial .receiver))
     (with-steps (times k (next 1 (divide-in s)) (s .rest .dividers .steps .at))
     (with-timers (times (turns 1 (divide-in s) k (s .rest .dividers .steps .at)) (stepped (modes-of (s .rest .registers))) (s .rest .timers)) s)))
 

@@ -89,8 +89,15 @@ internal-same s = rated-same (timed s) ∙ timed-same s
 -- the prescaler drives the internal clock
 internal-driven : Drives (λ s. 1) prescale-in (λ s. s .rest .dividers .prescaler .at) with-prescaler internal-clock
 internal-driven = record {
-    step-put = λ a s. refl; modulus-put = λ a s. refl; phase-put = λ a s. refl; put-put = λ a b s. refl; put-phase = λ s. refl;
-    step-move = λ s. refl; modulus-move = internal-same; move-put = internal-put }
+  step-put = λ a s. refl;
+  modulus-put = λ a s. refl;
+  phase-put = λ a s. refl;
+  put-put = λ a b s. refl;
+  put-phase = λ s. refl;
+  step-move = λ s. refl;
+  modulus-move = internal-same;
+  move-put = internal-put;
+}
 
 clocks-split : (n : ℕ) (s : StandIn) → times n clocked s ≡ with-prescaler (times n (next 1 (prescale-in s)) (s .rest .dividers .prescaler .at)) (times (internals-in n s) internal-clock s)
 unfolding clocked
@@ -233,5 +240,5 @@ module _ (s : StandIn) (r : ℕ) (c : Horizon s r) where
             subst (λ m. Quiet (firing m (times i (stepped m) (s .rest .timers))) (watched (s .rest .registers) (s .rest .mask) (s .sensitive .levels .requests))) (c .modes-are)
             (subst (Quiet (firing (c .m) (times i (stepped (c .m)) (s .rest .timers)))) (c .watched-are) (c .quiet i (omega arith)));
         sending = omega arith;
-        receiving = omega arith
+        receiving = omega arith;
       }

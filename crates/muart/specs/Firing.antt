@@ -49,8 +49,9 @@ heeded disabling level mask requests = getD mask level false && (disabling || no
 -- the timers whose firing would change the requests or the mask
 abbrev pub watched : Registers → List Bool → List Bool → Fired
 watched g mask requests = record {
-    one = unasked 0 mask requests;
-    two = not (biti-of g) && unasked 1 mask requests;
-    three = heeded (modes-of g .t5c && modes-of g .t35) 3 mask requests;
-    four = unasked 6 mask requests;
-    five = heeded (modes-of g .t5c && not (modes-of g .t35)) 7 mask requests }
+  one = unasked 0 mask requests;
+  two = not (biti-of g) && unasked 1 mask requests;
+  three = heeded (modes-of g .t5c && modes-of g .t35) 3 mask requests;
+  four = unasked 6 mask requests;
+  five = heeded (modes-of g .t5c && not (modes-of g .t35)) 7 mask requests;
+}

@@ -72,11 +72,3 @@ pin-allowed (Some pin) s = cond (is-output (s .rest .registers) pin) (Err Output
 
 abbrev pub pin-tested : ℕ → StandIn → Result Pin Refusal
 pin-tested code s = pin-allowed (pin-of code) s
-
-abbrev pub pin-answer : Result Pin Refusal → Result (Unit {0}) Refusal
-pin-answer (Ok pin) = Ok tt
-pin-answer (Err e) = Err e
-
-abbrev pub pin-leaves : Result Pin Refusal → Bool → StandIn → StandIn
-pin-leaves (Ok pin) v s = pin-set pin v s
-pin-leaves (Err e) v s = s

@@ -34,8 +34,8 @@ abbrev pub pulse-level : Family → StandIn → Result ℕ Refusal
 pulse-level f s =
     cond (s .rest .registers .control .iae)
     (cond (same-family f (family-of (s .rest .registers .command1)))
-      (free-to-take (ready-level (s .rest) (s .sensitive)) (s .rest .begun))
-      (Err WrongFamily))
+    (free-to-take (ready-level (s .rest) (s .sensitive)) (s .rest .begun))
+    (Err WrongFamily))
     (Err AcknowledgeDisabled)
 
 -- an accepted pulse takes
@@ -48,10 +48,20 @@ abbrev pub single-answer : Result ℕ Refusal → Result Acknowledged Refusal
 single-answer (Ok l) = Ok (record { byte = 199 + 8 * l; level = l })
 single-answer (Err e) = Err e
 
+-- the level that a single pulse took, by what it answered
+abbrev pub single-level : Result Acknowledged Refusal → Result ℕ Refusal
+single-level (Ok a) = Ok (a .level)
+single-level (Err e) = Err e
+
 -- the first pulse of the 8086 family leaves the host a half
 abbrev pub first-answer : Result ℕ Refusal → Result Begun Refusal
 first-answer (Ok l) = Ok (record { half = record { spent = false }; level = l })
 first-answer (Err e) = Err e
+
+-- the level that a first pulse took
+abbrev pub first-level : Result Begun Refusal → Result ℕ Refusal
+first-level (Ok b) = Ok (b .level)
+first-level (Err e) = Err e
 
 -- and begins an acknowledge of the level that it took
 abbrev pub begins : Result ℕ Refusal → StandIn → StandIn

@@ -49,8 +49,9 @@ no-characters v = record { transmitter = fresh; receiver = Idle; received = 0; r
 -- what a reset leaves: all zero but the outside levels of the pins and the level of RxD
 abbrev pub reset-to : pins.Pins → Bool → StandIn
 reset-to p v = record {
-    rest = record { registers = no-words; pins = p; mask = no-level; begun = None; timers = clearedTimers; dividers = no-phase; serial = no-characters v };
-    sensitive = record { levels = record { requests = no-level; service = no-level }; flags = record { rbf = false; bd = false; pe = false; oe = false; fe = false } } }
+  rest = record { registers = no-words; pins = p; mask = no-level; begun = None; timers = clearedTimers; dividers = no-phase; serial = no-characters v };
+  sensitive = record { levels = record { requests = no-level; service = no-level }; flags = record { rbf = false; bd = false; pe = false; oe = false; fe = false } };
+}
 
 -- a reset
 abbrev pub was-reset : StandIn → StandIn
@@ -151,5 +152,6 @@ closed-by before after = minus (before .sensitive .levels .service) (after .sens
 abbrev pub write-answer : Register → ℕ → StandIn → Result (List Bool) Refusal
 write-answer g w s = cond (lawful g w) (Ok (closed-by s (stored g w s))) (Err UnlawfulWord)
 
-abbrev pub write-leaves : Register → ℕ → StandIn → StandIn
-write-leaves g w s = when (lawful g w) (stored g w) s
+abbrev pub write-leaves : Result (List Bool) Refusal → Register → ℕ → StandIn → StandIn
+write-leaves (Ok closed) g w s = stored g w s
+write-leaves (Err e) g w s = s

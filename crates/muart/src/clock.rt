@@ -89,7 +89,10 @@ impl StandIn {
         if step == 0 {
             return FAR;
         }
-        self.rest.dividers.remainder.reach(ticks, step, RATE_MODULUS)
+        self.rest
+            .dividers
+            .remainder
+            .reach(ticks, step, RATE_MODULUS)
     }
 
     // How many clocks pass with nothing but counts, dividers and ticks within a bit moving.
@@ -102,9 +105,15 @@ impl StandIn {
         let heeded = watched(registers, &self.rest.mask, &self.sensitive.levels.requests);
         let fires = self.rest.timers.horizon(timer_modes(registers), heeded);
         let steps = FAR.min(fires);
-        let most = self.rest.dividers.steps.reach(steps, 1, divide(registers.command1));
+        let most = self.rest
+            .dividers
+            .steps
+            .reach(steps, 1, divide(registers.command1));
         let internals = FAR.min(most.min(self.horizon_at_rate()));
-        self.rest.dividers.prescaler.reach(internals, 1, prescale(registers.command2))
+        self.rest
+            .dividers
+            .prescaler
+            .reach(internals, 1, prescale(registers.command2))
     }
 
     // Many clocks at once, of which none is past the horizon.
@@ -122,7 +131,10 @@ impl StandIn {
         let steps = self.rest.dividers.steps.skip(internals, 1, divider);
         self.rest.timers.skip(steps, modes);
         let rate = rate_step(self.rest.registers.command2);
-        let ticks = self.rest.dividers.remainder.skip(internals, rate, RATE_MODULUS);
+        let ticks = self.rest
+            .dividers
+            .remainder
+            .skip(internals, rate, RATE_MODULUS);
         self.rest.serial.transmitter.skip(ticks);
         self.rest.serial.receiver.skip(ticks);
     }

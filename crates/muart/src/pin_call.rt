@@ -1,10 +1,10 @@
 // Setting the outside level of a pin.
 ghost use mathlib.Core.Path.{_≡_};
 ghost use Prim.Native.Nat.{_<_};
-ghost use lib.ListN.{set};
+ghost use Rattle.std.specs.Vec.{made};
 ghost use Rattle.muart.specs.Bounds.{Sound};
 ghost use Rattle.muart.specs.Ports.{placed};
-ghost use Rattle.muart.specs.PinCalls.{set-outside, counts-two, counts-three, calls-one, rise as rise-of, fall as fall-of, pin-set, pin-tested, pin-answer, pin-leaves};
+ghost use Rattle.muart.specs.PinCalls.{set-outside, counts-two, counts-three, calls-one, rise as rise-of, fall as fall-of, pin-set, pin-tested};
 use crate::firing::record_fired;
 use crate::firing::timer_modes;
 use crate::pins::Pin;
@@ -33,7 +33,9 @@ impl StandIn {
         ensures after { λ _. ⌜ now (self .exit) ≡ counts-two (now (self .entry)) ⌝ }
         ensures sound { λ _. ⌜ Sound (now (self .exit)) ⌝ }
     {
-        let fired = self.rest.timers.count_two(timer_modes(&self.rest.registers));
+        let fired = self.rest
+            .timers
+            .count_two(timer_modes(&self.rest.registers));
         record_fired(
             &self.rest.registers,
             &mut self.rest.mask,
@@ -47,7 +49,9 @@ impl StandIn {
         ensures after { λ _. ⌜ now (self .exit) ≡ counts-three (now (self .entry)) ⌝ }
         ensures sound { λ _. ⌜ Sound (now (self .exit)) ⌝ }
     {
-        let fired = self.rest.timers.count_three(timer_modes(&self.rest.registers));
+        let fired = self.rest
+            .timers
+            .count_three(timer_modes(&self.rest.registers));
         record_fired(
             &self.rest.registers,
             &mut self.rest.mask,
@@ -98,7 +102,7 @@ impl StandIn {
     }
 
     // Only a change of the level makes an edge.
-    fn set_level(&mut self, pin: Pin, level: bool)
+    pub fn set_level(&mut self, pin: Pin, level: bool)
         requires sound { ⌜ Sound (now self) ⌝ }
         requires placed { ⌜ placed pin ⌝ }
         ensures after { λ _. ⌜ now (self .exit) ≡ pin-set pin level (now (self .entry)) ⌝ }
@@ -115,11 +119,10 @@ impl StandIn {
         }
     }
 
-    pub fn set_pin(&mut self, code: u8, level: bool) -> Result<(), Refusal>
-        requires { ⌜ Sound (now self) ⌝ }
-        ensures answer { λ r. ⌜ r ≡ pin-answer (pin-tested code (now (self .entry))) ⌝ }
-        ensures after { λ _. ⌜ now (self .exit) ≡ pin-leaves (pin-tested code (now (self .entry))) level (now (self .entry)) ⌝ }
-        ensures sound { λ _. ⌜ Sound (now (self .exit)) ⌝ }
+    // The pin of a code, if it can be set from outside.
+    pub fn input_pin(&self, code: u8) -> Result<Pin, Refusal>
+        ensures answer { λ r. ⌜ r ≡ pin-tested code (now (self .entry)) ⌝ }
+        ensures within { λ r. ⌜ made r placed ⌝ }
     {
         let Some(pin) = Pin::coded(code) else {
             return Err(Refusal::NoSuchPin);
@@ -127,7 +130,6 @@ impl StandIn {
         if drives(&self.rest.registers, pin) {
             return Err(Refusal::OutputPin);
         }
-        self.set_level(pin, level);
-        Ok(())
+        Ok(pin)
     }
 }

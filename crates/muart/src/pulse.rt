@@ -3,7 +3,7 @@ ghost use mathlib.Core.Path.{_≡_};
 ghost use mathlib.Core.Bool.{true};
 ghost use Prim.Native.Nat.{_<_};
 ghost use Rattle.std.specs.Vec.{made};
-ghost use Rattle.muart.specs.Pulses.{same-family, pulse-level, pulsed, single-answer, first-answer, begins, second-answer, second-leaves};
+ghost use Rattle.muart.specs.Pulses.{same-family, pulse-level, pulsed, single-answer, single-level, first-answer, first-level, begins, second-answer, second-leaves};
 ghost use Rattle.muart.specs.Bounds.{Sound};
 use crate::read::interrupts;
 use crate::refusal::Refusal;
@@ -84,6 +84,7 @@ impl StandIn {
     // The single pulse of the 8085 family.
     pub fn acknowledge(&mut self) -> Result<Acknowledged, Refusal>
         requires { ⌜ Sound (now self) ⌝ }
+        ensures tested { λ r. ⌜ pulse-level Family.I8085 (now (self .entry)) ≡ single-level r ⌝ }
         ensures answer { λ r. ⌜ r ≡ single-answer (pulse-level Family.I8085 (now (self .entry))) ⌝ }
         ensures after { λ _. ⌜ now (self .exit) ≡ pulsed (pulse-level Family.I8085 (now (self .entry))) (now (self .entry)) ⌝ }
         ensures sound { λ _. ⌜ Sound (now (self .exit)) ⌝ }
@@ -98,6 +99,7 @@ impl StandIn {
     // The first pulse of the 8086 family.
     pub fn begin_acknowledge(&mut self) -> Result<Begun, Refusal>
         requires { ⌜ Sound (now self) ⌝ }
+        ensures tested { λ r. ⌜ pulse-level Family.I8086 (now (self .entry)) ≡ first-level r ⌝ }
         ensures answer { λ r. ⌜ r ≡ first-answer (pulse-level Family.I8086 (now (self .entry))) ⌝ }
         ensures after { λ _. ⌜ now (self .exit) ≡ begins (pulse-level Family.I8086 (now (self .entry))) (now (self .entry)) ⌝ }
         ensures sound { λ _. ⌜ Sound (now (self .exit)) ⌝ }

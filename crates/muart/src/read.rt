@@ -22,7 +22,11 @@ pub fn interrupts(rest: &Rest, sensitive: &Sensitive) -> bool
     ensures { λ r. ⌜ r ≡ int-high (now (rest .entry)) (now (sensitive .entry)) ⌝ }
 {
     let requesting = levels::requesting(&sensitive.levels.requests, &rest.mask, rest.pins.extint);
-    levels::ready(&requesting, &sensitive.levels.service, rest.registers.control.nie).is_some()
+    levels::ready(
+        &requesting,
+        &sensitive.levels.service,
+        rest.registers.control.nie,
+    ).is_some()
 }
 
 fn control_byte(control: &Control) -> u8
@@ -71,7 +75,10 @@ fn read_interrupt_address(rest: &Rest, sensitive: &mut Sensitive) -> Reading
         rest.registers.control.nie,
     );
     match taken {
-        Some(level) => Reading { byte: 4 * level, taken },
+        Some(level) => Reading {
+            byte: 4 * level,
+            taken,
+        },
         None => Reading { byte: 255, taken },
     }
 }

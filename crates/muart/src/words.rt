@@ -21,7 +21,11 @@ impl Family {
     pub fn selected(command1: u8) -> Family
         ensures { λ r. ⌜ r ≡ family-of command1 ⌝ }
     {
-        if bit(command1, 1) { Family::I8086 } else { Family::I8085 }
+        if bit(command1, 1) {
+            Family::I8086
+        } else {
+            Family::I8085
+        }
     }
 }
 

@@ -205,7 +205,7 @@ impl StandIn {
     pub fn write(&mut self, register: Register, word: u8) -> Result<[bool; 8], Refusal>
         requires { ⌜ Sound (now self) ⌝ }
         ensures answer { λ r. ⌜ r ≡ write-answer register word (now (self .entry)) ⌝ }
-        ensures after { λ _. ⌜ now (self .exit) ≡ write-leaves register word (now (self .entry)) ⌝ }
+        ensures after { λ r. ⌜ now (self .exit) ≡ write-leaves r register word (now (self .entry)) ⌝ }
         ensures sound { λ _. ⌜ Sound (now (self .exit)) ⌝ }
     {
         if !lawful(register, word) {

@@ -15,14 +15,13 @@ returns-in-rest c =
     record {
       answer = rw room (sym (c .loop-at .inv .1 ∙ known-stops _ _ (c .loop-at-test .taken) e));
       same = search needs;
-      wrote = rw room (sym (c .loop-at .inv .0 ∙ stops _ _ _ _ _ (c .loop-at-test .taken) (c .loop-at .inv .2) e))
+      wrote = rw room (sym (c .loop-at .inv .0 ∙ stops _ _ _ _ _ (c .loop-at-test .taken) (c .loop-at .inv .2) e));
     }
 
 pub loop-at-again : need.loop-at-again
 loop-at-again c =
     let e = sym (c .numbered .ensures) ∙ c .in-Some .is in
-    let taken = c .loop-at-test .taken in
-    (
+    let taken = c .loop-at-test .taken in (
       turn _ _ _ _ _ _ _ _ _ (c .loop-at .inv .0) taken (c .loop-at .inv .2) e (c .read .ensures .answer) (c .read .ensures .after),
       known-turn _ _ _ (c .loop-at .inv .1) taken e,
       simp length-set (c .loop-at .inv .2),
@@ -34,5 +33,5 @@ returns c =
     record {
       answer = rw room (sym (c .loop-at .inv .1 ∙ known-ends _ _ (c .loop-at-test .left)));
       same = search needs;
-      wrote = rw room (sym (c .loop-at .inv .0 ∙ ends _ _ _ _ _ (c .loop-at-test .left)))
+      wrote = rw room (sym (c .loop-at .inv .0 ∙ ends _ _ _ _ _ (c .loop-at-test .left)));
     }

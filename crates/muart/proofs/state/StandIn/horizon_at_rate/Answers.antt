@@ -8,5 +8,5 @@ returns-then-step-eq0 c =
     let idle = sym (c .rate-step-step .ensures .value) ∙ c .if-step-eq0 .taken in
     record {
       value = sym (ap (λ r. quiet-at-rate r (c .args .self .now)) idle);
-      within = λ n h. no-tick _ n _ _ idle (c .pre .remainder)
+      within = λ n h. no-tick _ n _ _ idle (c .pre .remainder);
     }

@@ -1,0 +1,2 @@
+pub mod Elapsing
+mod Playing

@@ -1,0 +1,2 @@
+mod Keeping
+pub mod Marks
