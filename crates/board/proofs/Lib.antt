@@ -1,2 +1,4 @@
 pub mod Clocks
 mod ClosedMarks
+pub mod Cutting
+pub mod Stacking

@@ -2,3 +2,5 @@ pub mod Marks
 pub mod Views
 pub mod Perform
 pub mod Histories
+pub mod Cuts
+pub mod ServiceStack

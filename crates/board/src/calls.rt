@@ -1,6 +1,7 @@
 // Every call that is made of a board. None asks anything of its caller.
 ghost use mathlib.Core.Path.{_≡_};
-ghost use Rattle.board.specs.Views.{view};
+ghost use Prim.Native.Nat.{_≤_};
+ghost use Rattle.board.specs.Views.{view, last-clock};
 ghost use Rattle.board.specs.Perform.{read as read-call, write as write-call, pulse, first-pulse, second-pulse, pin, span as span-call, look as look-call, snapshot as snapshot-call, reset as reset-call, done, looked, counts, byte-answer, plain-answer, answered, perform, state, started};
 use crate::inner::Inner;
 use crate::marks::ServiceMark;
@@ -30,7 +31,8 @@ impl<P: Partner> Board<P> {
 
     // The clock number.
     pub fn clock(&self) -> u64
-        ensures { λ r. ⌜ r ≡ now (self .entry) .inner .clock ⌝ }
+        ensures value { λ r. ⌜ r ≡ now (self .entry) .inner .clock ⌝ }
+        ensures within { λ r. ⌜ r ≤ last-clock ⌝ }
     {
         self.inner.clock
     }

@@ -1,0 +1,2 @@
+// The bench: script lines run against a board.
+mod operations;
