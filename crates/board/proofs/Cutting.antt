@@ -53,9 +53,10 @@ answers-append (elapsed n ∷ first) rest s = answers-append first rest (clocks 
 -- n + m clocks are n clocks and then m
 clocks-add : (n m : ℕ) (s : State) → clocks (n + m) s ≡ clocks m (clocks n s)
 clocks-add n m s = λ i. record {
-    board = times-add n m clock-once (s .board) i;
-    wires = (ap (λ ms. all-marked ms (s .wires)) (span-marks-add n m (s .board)) ∙ all-marked-append (span-marks n (s .board)) (span-marks m (times n clock-once (s .board))) (s .wires)) i;
-    services = s .services }
+  board = times-add n m clock-once (s .board) i;
+  wires = (ap (λ ms. all-marked ms (s .wires)) (span-marks-add n m (s .board)) ∙ all-marked-append (span-marks n (s .board)) (span-marks m (times n clock-once (s .board))) (s .wires)) i;
+  services = s .services;
+}
 
 joins : (n : ℕ) (items : List Item) (s : State) → replay (clocks-before n items) s ≡ replay items (clocks n s)
 joins n [] s = refl
@@ -207,21 +208,23 @@ left-answered cs s = added-answers (struck cs s) s ∙ struck-tells cs s
 -- equal states are alike
 pub same-alike : (s t : State) → s ≡ t → Alike s t
 same-alike s t e = record {
-    registers = λ i. e i .board .unit .rest .registers;
-    requests = λ i. e i .board .unit .sensitive .levels .requests;
-    service = λ i. e i .board .unit .sensitive .levels .service;
-    flags = λ i. e i .board .unit .sensitive .flags;
-    counts = λ i. countsOf (e i .board .unit .rest .timers);
-    lines = λ i. lines-of (e i .board .unit);
-    clock = λ i. e i .board .clock;
-    partner = λ i. e i .board .partner;
-    wires = λ i. e i .wires;
-    services = λ i. e i .services;
-    same = e;
-    onward = λ cs. ap (answers cs) e }
+  registers = λ i. e i .board .unit .rest .registers;
+  requests = λ i. e i .board .unit .sensitive .levels .requests;
+  service = λ i. e i .board .unit .sensitive .levels .service;
+  flags = λ i. e i .board .unit .sensitive .flags;
+  counts = λ i. countsOf (e i .board .unit .rest .timers);
+  lines = λ i. lines-of (e i .board .unit);
+  clock = λ i. e i .board .clock;
+  partner = λ i. e i .board .partner;
+  wires = λ i. e i .wires;
+  services = λ i. e i .services;
+  same = e;
+  onward = λ cs. ap (answers cs) e;
+}
 
 pub cut-does-not-show : Cut-does-not-show
-cut-does-not-show m n p wires services g h e =
-    (same-alike (ran g (start m wires services)) (ran h (start n wires services))
+cut-does-not-show m n p wires services g h e = (
+  same-alike (ran g (start m wires services)) (ran h (start n wires services))
       (sym (left-ran g (start m wires services)) ∙ (λ i. replay (e i) (start (p i) wires services)) ∙ left-ran h (start n wires services)),
-     sym (left-answered g (start m wires services)) ∙ (λ i. replay-answers (e i) (start (p i) wires services)) ∙ left-answered h (start n wires services))
+  sym (left-answered g (start m wires services)) ∙ (λ i. replay-answers (e i) (start (p i) wires services)) ∙ left-answered h (start n wires services),
+)

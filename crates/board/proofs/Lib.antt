@@ -2,3 +2,4 @@ pub mod Clocks
 mod ClosedMarks
 pub mod Cutting
 pub mod Stacking
+pub mod Drained

@@ -99,4 +99,4 @@ Cut-does-not-show =
     (m n : Meaning) → m ≡ n → (wires services : ℕ) (g h : List Call)
     → left g (start m wires services) ≡ left h (start n wires services)
     → Alike (ran g (start m wires services)) (ran h (start n wires services))
-      × (kept-answers g (start m wires services) ≡ kept-answers h (start n wires services))
+    × (kept-answers g (start m wires services) ≡ kept-answers h (start n wires services))

@@ -4,3 +4,4 @@ pub mod Perform
 pub mod Histories
 pub mod Cuts
 pub mod ServiceStack
+pub mod Draining
