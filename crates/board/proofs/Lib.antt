@@ -3,3 +3,4 @@ mod ClosedMarks
 pub mod Cutting
 pub mod Stacking
 pub mod Drained
+pub mod Worked

@@ -5,3 +5,4 @@ pub mod Histories
 pub mod Cuts
 pub mod ServiceStack
 pub mod Draining
+pub mod Examples

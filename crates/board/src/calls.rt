@@ -2,6 +2,10 @@
 ghost use mathlib.Core.Path.{_≡_};
 ghost use Prim.Native.Nat.{_≤_};
 ghost use Rattle.board.specs.Views.{view, last-clock};
+ghost use Rattle.board.specs.Cuts.{Cut-does-not-show};
+ghost use Rattle.board.specs.ServiceStack.{Service-is-a-stack};
+ghost use Rattle.board.specs.Draining.{Requests-drain};
+ghost use Rattle.board.specs.Examples.{Worked-examples};
 ghost use Rattle.board.specs.Perform.{read as read-call, write as write-call, pulse, first-pulse, second-pulse, pin, span as span-call, look as look-call, snapshot as snapshot-call, reset as reset-call, done, looked, counts, byte-answer, plain-answer, answered, perform, state, started};
 use crate::inner::Inner;
 use crate::marks::ServiceMark;
@@ -16,7 +20,19 @@ use recorder::Recorder;
 
 impl<P: Partner> Board<P> {
     // RxD has the partner's level, and the clock number is 0.
+    // Over every history from here on: how the clock is cut does not show, service is a stack that the marks tell, and
+    // standing requests drain.
     pub fn power_up(partner: P) -> Board<P>
+        ensures started { λ r. ⌜ view (P·Partner .meaning) (r .inner) ≡ started (P·Partner .meaning partner) ⌝ }
+        ensures cuts { λ _. ⌜ Cut-does-not-show ⌝ }
+        ensures service { λ _. ⌜ Service-is-a-stack ⌝ }
+        ensures draining { λ _. ⌜ Requests-drain ⌝ }
+        ensures examples { λ _. ⌜ Worked-examples ⌝ }
+    {
+        Board::made(partner)
+    }
+
+    fn made(partner: P) -> Board<P>
         ensures { λ r. ⌜ view (P·Partner .meaning) (r .inner) ≡ started (P·Partner .meaning partner) ⌝ }
     {
         let unit = StandIn::power_up(partner.level());

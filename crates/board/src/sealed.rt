@@ -8,6 +8,7 @@ ghost use Rattle.board.specs.Views.{last-clock};
 use crate::inner::Inner;
 
 // The stand-in beside a line partner of any kind. Its bounds hold whatever calls are made, so no call need ask for them.
+#[derive(Drop)]
 pub struct Board<P> {
     pub(crate) inner: Inner<P>,
     ghost prescaler: { inner .unit .rest .dividers .prescaler .at < prescale-of (inner .unit .rest .registers .command2) },
