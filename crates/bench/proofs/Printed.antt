@@ -13,7 +13,7 @@ use Rattle.script.specs.declared.items.Fault.{Fault}
 use Rattle.script.specs.Lines.{Content, step, note, parsed}
 use Rattle.listing.specs.declared.lines.Line.{Line}
 use Rattle.listing.specs.Layout.{layout}
-use Rattle.muart.specs.declared.refusal.Refusal.{Refusal}
+use Rattle.registers.specs.declared.refusal.Refusal.{Refusal}
 use Rattle.board.specs.Perform.{State}
 use Rattle.board.specs.Histories.{ran}
 use Rattle.bench.specs.Operations.{calls-of, last-listed, line-of, fault-line}

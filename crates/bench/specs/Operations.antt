@@ -14,9 +14,9 @@ use Rattle.script.specs.Lines.{Content, step, note, parsed}
 use Rattle.listing.specs.declared.lines.Line.{Line}
 use Rattle.listing.specs.declared.lines.Verdict.the-variants.{Accepted, Refused}
 use Rattle.listing.specs.Layout.{layout}
-use Rattle.muart.specs.declared.refusal.Refusal.{Refusal}
-use Rattle.muart.specs.declared.latch.Latched.{Latched}
-use Rattle.muart.specs.Refusals.{number-of}
+use Rattle.registers.specs.declared.refusal.Refusal.{Refusal}
+use Rattle.registers.specs.declared.latch.Latched.{Latched}
+use Rattle.registers.specs.Refusals.{number-of}
 use Rattle.board.specs.Perform.{Call, read, write, pulse, first-pulse, second-pulse, pin, span, look, reset, Answer, done, byte, counts, refused, looked, answered, State, after}
 use Rattle.board.specs.Histories.{ran}
 

@@ -11,9 +11,9 @@ use board::ServiceMark;
 use board::WireMark;
 use line::Loopback;
 use line::LoopbackPartner;
-use muart::latch::Latched;
-use muart::refusal::Refusal;
 use recorder::Recorder;
+use registers::latch::Latched;
+use registers::refusal::Refusal;
 use script::Operation;
 
 fn both_pulses(

@@ -11,10 +11,10 @@ use Rattle.timing.proofs.Repeats.{times-add}
 use Rattle.timers.specs.Access.{countsOf}
 use Rattle.recorder.specs.Recording.{all-marked}
 use Rattle.recorder.proofs.Marks.{all-marked-append}
-use Rattle.muart.specs.declared.refusal.Refusal.{Refusal}
-use Rattle.muart.specs.declared.register.Register.{Register}
-use Rattle.muart.specs.declared.words.Family.the-variants.{I8085, I8086}
-use Rattle.muart.specs.declared.pins.Pin.{Pin}
+use Rattle.registers.specs.declared.refusal.Refusal.{Refusal}
+use Rattle.registers.specs.declared.register.Register.{Register}
+use Rattle.registers.specs.declared.words.Family.the-variants.{I8085, I8086}
+use Rattle.registers.specs.declared.pins.Pin.{Pin}
 use Rattle.muart.specs.Writing.{write-answer}
 use Rattle.muart.specs.Pulses.{pulse-level, second-answer}
 use Rattle.muart.specs.PinCalls.{pin-tested}

@@ -25,18 +25,18 @@ use Rattle.timers.specs.declared.timers.Timers.{Timers}
 use Rattle.timers.specs.declared.modes.Fired.{Fired}
 use Rattle.serial.specs.declared.receiver.Reception.{Reception}
 use Rattle.serial.specs.Receiving.{told, fallen}
-use Rattle.muart.specs.declared.refusal.Refusal.{Refusal}
-use Rattle.muart.specs.declared.register.Register.{Register}
-use Rattle.muart.specs.declared.register.Register.the-variants.{Command1, Command2, Command3, Mode, Port1Control, Mask, InterruptAddress, Buffer, Pins, Timer, Status}
-use Rattle.muart.specs.declared.latch.Latched.{Latched}
-use Rattle.muart.specs.declared.pins.Pin.{Pin}
-use Rattle.muart.specs.declared.pins.Pin.the-variants.{Port1, Port2, Cts, Extint}
-use Rattle.muart.specs.declared.pins.Port.the-variants.{One, Two}
-use Rattle.muart.specs.declared.words.Family.the-variants.{I8085, I8086}
-use Rattle.muart.specs.declared.state.Registers.{Registers}
+use Rattle.registers.specs.declared.refusal.Refusal.{Refusal}
+use Rattle.registers.specs.declared.register.Register.{Register}
+use Rattle.registers.specs.declared.register.Register.the-variants.{Command1, Command2, Command3, Mode, Port1Control, Mask, InterruptAddress, Buffer, Pins, Timer, Status}
+use Rattle.registers.specs.declared.latch.Latched.{Latched}
+use Rattle.registers.specs.declared.pins.Pin.{Pin}
+use Rattle.registers.specs.declared.pins.Pin.the-variants.{Port1, Port2, Cts, Extint}
+use Rattle.registers.specs.declared.pins.Port.the-variants.{One, Two}
+use Rattle.registers.specs.declared.words.Family.the-variants.{I8085, I8086}
+use Rattle.registers.specs.declared.held.Registers.{Registers}
 use Rattle.muart.specs.declared.state.StandIn.{StandIn}
-use Rattle.muart.specs.Words.{family-of, bit-of}
-use Rattle.muart.specs.Bus.{strobed}
+use Rattle.registers.specs.Words.{family-of, bit-of}
+use Rattle.registers.specs.Bus.{strobed}
 use Rattle.muart.specs.State.{with-serial, with-sensitive, with-steps, with-prescaler, with-remainder, with-receiver, with-pins}
 use Rattle.timers.specs.Stepping.{stepped, firing, countedTwo, firingTwo, countedThree, firingThree}
 use Rattle.muart.specs.Firing.{request-if, fired-requests, biti-of, modes-of}
@@ -48,7 +48,7 @@ use Rattle.muart.specs.Reading.{ready-level, took, read-leaves, address-byte}
 use Rattle.muart.specs.Writing.{no-characters, stored, commanded3, write-answer, clears-nie, resets, no-level}
 use Rattle.muart.specs.Pulses.{pulse-level, second-answer}
 use Rattle.muart.specs.PinCalls.{set-outside, rise, fall, pin-set, pin-tested}
-use Rattle.muart.specs.Ports.{outside}
+use Rattle.registers.specs.Ports.{outside}
 use Rattle.board.specs.Views.{View, settled, stirred, clock-once}
 use Rattle.board.specs.Perform.{Call, read, write, pulse, first-pulse, second-pulse, pin, span, look, snapshot, reset, Answer, byte, done, State, after, start, answered, view-after, strobe-of, read-effect, store-effect, write-effect, pulse-effect, first-effect, second-effect, pin-effect, span-result, spanned, byte-answer, plain-answer, read-result, write-result, ended as call-ended}
 use Rattle.board.specs.Histories.{ran, answers}

@@ -24,20 +24,20 @@ use Rattle.recorder.specs.Recording.{all-marked}
 use Rattle.recorder.proofs.Marks.{all-marked-append, kept-all}
 use Rattle.serial.specs.declared.receiver.Reception.{Reception}
 use Rattle.serial.specs.Receiving.{told as heard, fallen}
-use Rattle.muart.specs.declared.refusal.Refusal.{Refusal}
-use Rattle.muart.specs.declared.register.Register.{Register}
-use Rattle.muart.specs.declared.register.Register.the-variants as register
-use Rattle.muart.specs.declared.pins.Port.{Port}
-use Rattle.muart.specs.declared.pins.Port.the-variants as port
-use Rattle.muart.specs.declared.pins.Pin.{Pin}
-use Rattle.muart.specs.declared.pins.Pin.the-variants.{Port1, Port2, Cts, Extint}
-use Rattle.muart.specs.declared.words.Family.{Family}
-use Rattle.muart.specs.declared.words.Family.the-variants.{I8085, I8086}
+use Rattle.registers.specs.declared.refusal.Refusal.{Refusal}
+use Rattle.registers.specs.declared.register.Register.{Register}
+use Rattle.registers.specs.declared.register.Register.the-variants as register
+use Rattle.registers.specs.declared.pins.Port.{Port}
+use Rattle.registers.specs.declared.pins.Port.the-variants as port
+use Rattle.registers.specs.declared.pins.Pin.{Pin}
+use Rattle.registers.specs.declared.pins.Pin.the-variants.{Port1, Port2, Cts, Extint}
+use Rattle.registers.specs.declared.words.Family.{Family}
+use Rattle.registers.specs.declared.words.Family.the-variants.{I8085, I8086}
 use Rattle.muart.specs.declared.state.StandIn.{StandIn}
-use Rattle.muart.specs.Words.{family-of, bit-of}
-use Rattle.muart.specs.Ports.{outside}
+use Rattle.registers.specs.Words.{family-of, bit-of, same-family}
+use Rattle.registers.specs.Ports.{outside}
 use Rattle.muart.specs.Reading.{ready-level, read-leaves}
-use Rattle.muart.specs.Pulses.{same-family, free-to-take, pulse-level, second-answer}
+use Rattle.muart.specs.Pulses.{free-to-take, pulse-level, second-answer}
 use Rattle.muart.specs.Serial.{form-in, rate-in, reception-kept, serial-tick, txd-level}
 use Rattle.muart.specs.Clock.{timer-step, divide-in, timed, rate-modulus, rated, internal-clock, prescale-in, clocked}
 use Rattle.muart.specs.State.{with-pins, with-receiver, with-steps, with-remainder, with-prescaler, with-service}

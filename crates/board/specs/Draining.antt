@@ -9,8 +9,8 @@ use Rattle.std.specs.shelf.Lists.{All}
 use Rattle.levels.specs.Sets.{levels}
 use Rattle.levels.specs.Levels.{requesting}
 use Rattle.line.specs.Meaning.{Meaning}
-use Rattle.muart.specs.declared.latch.Latched.{Latched}
-use Rattle.muart.specs.declared.register.Register.the-variants.{Command3, InterruptAddress}
+use Rattle.registers.specs.declared.latch.Latched.{Latched}
+use Rattle.registers.specs.declared.register.Register.the-variants.{Command3, InterruptAddress}
 use Rattle.board.specs.Perform.{Call, read, write, Answer, done, byte, State, start, strobe-of}
 use Rattle.board.specs.Histories.{ran, answers}
 

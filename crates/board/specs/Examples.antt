@@ -5,7 +5,7 @@ use mathlib.Core.Bool.{Bool, true, false}
 use mathlib.Core.List.{List, [], _∷_, _++_}
 use Rattle.levels.specs.Sets.{levels}
 use Rattle.line.specs.LastHeard.{last-heard}
-use Rattle.muart.specs.declared.latch.Latched.{Latched}
+use Rattle.registers.specs.declared.latch.Latched.{Latched}
 use Rattle.muart.specs.Serial.{txd-level}
 use Rattle.board.specs.declared.marks.Line.the-variants.{TxD, RxD}
 use Rattle.board.specs.declared.marks.WireMark.{WireMark}

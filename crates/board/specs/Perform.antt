@@ -14,14 +14,14 @@ use Rattle.line.specs.Meaning.{Meaning, shown}
 use Rattle.recorder.specs.Recording.{Recording, recording, empty, all-marked}
 use Rattle.recorder.specs.declared.recorder.Recorder.{Recorder}
 use Rattle.board.specs.declared.inner.Inner.{Inner}
-use Rattle.muart.specs.declared.refusal.Refusal.{Refusal}
-use Rattle.muart.specs.declared.refusal.Refusal.the-variants.{SpanTooLong, ClockPastEnd}
-use Rattle.muart.specs.declared.register.Register.{Register}
-use Rattle.muart.specs.declared.latch.Latched.{Latched}
-use Rattle.muart.specs.declared.words.Family.the-variants.{I8085, I8086}
-use Rattle.muart.specs.declared.pins.Pin.{Pin}
-use Rattle.muart.specs.Words.{family-of}
-use Rattle.muart.specs.Bus.{strobed}
+use Rattle.registers.specs.declared.refusal.Refusal.{Refusal}
+use Rattle.registers.specs.declared.refusal.Refusal.the-variants.{SpanTooLong, ClockPastEnd}
+use Rattle.registers.specs.declared.register.Register.{Register}
+use Rattle.registers.specs.declared.latch.Latched.{Latched}
+use Rattle.registers.specs.declared.words.Family.the-variants.{I8085, I8086}
+use Rattle.registers.specs.declared.pins.Pin.{Pin}
+use Rattle.registers.specs.Words.{family-of}
+use Rattle.registers.specs.Bus.{strobed}
 use Rattle.muart.specs.Reading.{read-byte, read-takes, read-leaves}
 use Rattle.muart.specs.Writing.{write-answer, stored, was-reset, powered-up}
 use Rattle.muart.specs.Pulses.{pulse-level, pulsed, begins, second-answer, second-leaves}

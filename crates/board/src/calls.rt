@@ -12,11 +12,11 @@ use crate::marks::ServiceMark;
 use crate::marks::WireMark;
 use crate::sealed::Board;
 use line::Partner;
-use muart::latch::Latched;
 use muart::pulse::Half;
-use muart::refusal::Refusal;
 use muart::state::StandIn;
 use recorder::Recorder;
+use registers::latch::Latched;
+use registers::refusal::Refusal;
 
 impl<P: Partner> Board<P> {
     // RxD has the partner's level, and the clock number is 0.

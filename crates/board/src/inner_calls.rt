@@ -8,14 +8,14 @@ use crate::marks::WireMark;
 use crate::marks::mark_closed;
 use crate::marks::mark_taken;
 use line::Partner;
-use muart::latch::Latched;
 use muart::look::look;
 use muart::pulse::Begun;
 use muart::pulse::Half;
 use muart::read::read;
-use muart::refusal::Refusal;
-use muart::words::Family;
 use recorder::Recorder;
+use registers::latch::Latched;
+use registers::refusal::Refusal;
+use registers::words::Family;
 
 const LONGEST_SPAN: u64 = 16_777_216;
 

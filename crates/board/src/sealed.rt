@@ -2,7 +2,7 @@
 ghost use Prim.Native.Nat.{_<_, _≤_};
 ghost use Rattle.serial.specs.Sending.{Sound-transmitter};
 ghost use Rattle.serial.specs.Receiving.{Sound-receiver};
-ghost use Rattle.muart.specs.Words.{prescale-of, divide-of};
+ghost use Rattle.registers.specs.Words.{prescale-of, divide-of};
 ghost use Rattle.muart.specs.Bounds.{begun-level};
 ghost use Rattle.board.specs.Views.{last-clock};
 use crate::inner::Inner;

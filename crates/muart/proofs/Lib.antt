@@ -1,4 +1,3 @@
-mod Bytes
 mod Looking
 pub mod QuietFiring
 pub mod BareMotion

@@ -7,11 +7,11 @@ use lib.ListN.{length, getD, take, drop, set, take-append-drop}
 use Rattle.std.specs.declared.option.Option.{Option}
 use Rattle.std.specs.declared.option.Option.the-variants.{Some, None}
 use Rattle.std.specs.declared.result.Result.the-variants.{Ok, Err}
-use Rattle.muart.specs.declared.refusal.Refusal.the-variants.{NoSuchRegister}
-use Rattle.muart.specs.declared.register.Register.{Register}
+use Rattle.registers.specs.declared.refusal.Refusal.the-variants.{NoSuchRegister}
+use Rattle.registers.specs.declared.register.Register.{Register}
 use Rattle.muart.specs.declared.state.Rest.{Rest}
 use Rattle.muart.specs.declared.state.Sensitive.{Sensitive}
-use Rattle.muart.specs.Bus.{register-of}
+use Rattle.registers.specs.Bus.{register-of}
 use native.Mathlib.Numerals.{add-one}
 use Rattle.muart.specs.declared.read.Reading.{Reading}
 use Rattle.muart.specs.Reading.{read-byte, read-leaves, reading}

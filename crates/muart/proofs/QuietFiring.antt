@@ -7,7 +7,7 @@ use lib.ListN.{getD, set}
 use Rattle.levels.proofs.Recording.{not-fresh, not-enabled}
 use Rattle.timers.specs.declared.modes.Fired.{Fired}
 use Rattle.timers.specs.Stepping.{Quiet}
-use Rattle.muart.specs.declared.state.Registers.{Registers}
+use Rattle.registers.specs.declared.held.Registers.{Registers}
 use Rattle.muart.specs.Firing.{modes-of, biti-of, request-if, fired-requests, fired-mask, watched, unasked}
 
 -- tests of which one part fails

@@ -5,7 +5,7 @@ use Rattle.std.specs.declared.option.Option.the-variants.{Some, None}
 use Rattle.muart.specs.declared.state.StandIn.{StandIn}
 use Rattle.serial.specs.Sending.{Sound-transmitter}
 use Rattle.serial.specs.Receiving.{Sound-receiver}
-use Rattle.muart.specs.Words.{prescale-of, divide-of}
+use Rattle.registers.specs.Words.{prescale-of, divide-of}
 
 -- the level of a begun acknowledge
 abbrev pub begun-level : Option ℕ → ℕ

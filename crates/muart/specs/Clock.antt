@@ -8,7 +8,7 @@ use Rattle.timers.specs.declared.modes.Fired.{Fired}
 use Rattle.timers.specs.Stepping.{stepped, firing, quietFor, Quiet}
 use Rattle.timers.specs.Counts.{far}
 use Rattle.muart.specs.declared.state.StandIn.{StandIn}
-use Rattle.muart.specs.Words.{prescale-of, divide-of}
+use Rattle.registers.specs.Words.{prescale-of, divide-of}
 use Rattle.muart.specs.Firing.{modes-of, fired-requests, fired-mask, watched}
 use Rattle.muart.specs.Serial.{rate-in, serial-tick}
 use Rattle.muart.specs.State.{with-timers, with-mask, with-requests, with-prescaler, with-steps, with-remainder}

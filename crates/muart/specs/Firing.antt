@@ -6,8 +6,8 @@ use lib.ListN.{getD, set}
 use Rattle.levels.specs.Levels.{request}
 use Rattle.timers.specs.declared.modes.TimerModes.{TimerModes}
 use Rattle.timers.specs.declared.modes.Fired.{Fired}
-use Rattle.muart.specs.declared.state.Registers.{Registers}
-use Rattle.muart.specs.Words.{bit-of}
+use Rattle.registers.specs.declared.held.Registers.{Registers}
+use Rattle.registers.specs.Words.{bit-of}
 
 -- mode bits 7 T35, 6 T24, 5 T5C, 4 CT3, 3 CT2
 abbrev pub modes-of : Registers → TimerModes

@@ -1,7 +1,3 @@
-pub mod Refusals
-pub mod Words
-pub mod Bus
-pub mod Ports
 pub mod Reading
 pub mod Looks
 pub mod State

@@ -8,12 +8,12 @@ use Rattle.std.specs.declared.option.Option.{Option}
 use Rattle.std.specs.declared.option.Option.the-variants.{Some, None}
 use Rattle.std.specs.declared.result.Result.{Result}
 use Rattle.std.specs.declared.result.Result.the-variants.{Ok, Err}
-use Rattle.muart.specs.declared.refusal.Refusal.{Refusal}
-use Rattle.muart.specs.declared.refusal.Refusal.the-variants.{PlaceTooShort, NoSuchRegister}
-use Rattle.muart.specs.declared.register.Register.{Register}
+use Rattle.registers.specs.declared.refusal.Refusal.{Refusal}
+use Rattle.registers.specs.declared.refusal.Refusal.the-variants.{PlaceTooShort, NoSuchRegister}
+use Rattle.registers.specs.declared.register.Register.{Register}
 use Rattle.muart.specs.declared.state.Rest.{Rest}
 use Rattle.muart.specs.declared.state.Sensitive.{Sensitive}
-use Rattle.muart.specs.Bus.{register-of}
+use Rattle.registers.specs.Bus.{register-of}
 use Rattle.muart.specs.Reading.{read-byte, read-leaves}
 
 -- a register above 15 is refused at its turn

@@ -11,13 +11,13 @@ use Rattle.std.specs.declared.result.Result.the-variants.{Ok, Err}
 use Rattle.timing.specs.Run.{when}
 use Rattle.timers.specs.Stepping.{countedTwo, firingTwo, countedThree, firingThree}
 use Rattle.timers.specs.Access.{triggered}
-use Rattle.muart.specs.declared.refusal.Refusal.{Refusal}
-use Rattle.muart.specs.declared.refusal.Refusal.the-variants.{NoSuchPin, OutputPin}
-use Rattle.muart.specs.declared.pins.Pin.{Pin}
-use Rattle.muart.specs.declared.pins.Pin.the-variants.{Port1, Port2, Cts, Extint}
-use Rattle.muart.specs.declared.state.Pins.{Pins}
+use Rattle.registers.specs.declared.refusal.Refusal.{Refusal}
+use Rattle.registers.specs.declared.refusal.Refusal.the-variants.{NoSuchPin, OutputPin}
+use Rattle.registers.specs.declared.pins.Pin.{Pin}
+use Rattle.registers.specs.declared.pins.Pin.the-variants.{Port1, Port2, Cts, Extint}
+use Rattle.registers.specs.declared.held.Pins.{Pins}
 use Rattle.muart.specs.declared.state.StandIn.{StandIn}
-use Rattle.muart.specs.Ports.{pin-of, is-output, outside}
+use Rattle.registers.specs.Ports.{pin-of, is-output, outside}
 use Rattle.muart.specs.Firing.{modes-of, biti-of, request-if}
 use Rattle.muart.specs.State.{with-pins, with-timers, with-requests}
 use Rattle.muart.specs.Serial.{cts-fell}

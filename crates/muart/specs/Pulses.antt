@@ -5,23 +5,17 @@ use Rattle.std.specs.declared.option.Option.{Option}
 use Rattle.std.specs.declared.option.Option.the-variants.{Some, None}
 use Rattle.std.specs.declared.result.Result.{Result}
 use Rattle.std.specs.declared.result.Result.the-variants.{Ok, Err}
-use Rattle.muart.specs.declared.refusal.Refusal.{Refusal}
-use Rattle.muart.specs.declared.refusal.Refusal.the-variants.{AcknowledgeDisabled, WrongFamily, InterruptLow, AlreadyBegun, NoneBegun}
-use Rattle.muart.specs.declared.words.Family.{Family}
-use Rattle.muart.specs.declared.words.Family.the-variants.{I8085, I8086}
+use Rattle.registers.specs.declared.refusal.Refusal.{Refusal}
+use Rattle.registers.specs.declared.refusal.Refusal.the-variants.{AcknowledgeDisabled, WrongFamily, InterruptLow, AlreadyBegun, NoneBegun}
+use Rattle.registers.specs.declared.words.Family.{Family}
+use Rattle.registers.specs.declared.words.Family.the-variants.{I8085, I8086}
 use Rattle.muart.specs.declared.state.StandIn.{StandIn}
 use Rattle.muart.specs.declared.pulse.Half.{Half}
 use Rattle.muart.specs.declared.pulse.Begun.{Begun}
 use Rattle.muart.specs.declared.pulse.Acknowledged.{Acknowledged}
-use Rattle.muart.specs.Words.{family-of}
+use Rattle.registers.specs.Words.{family-of, same-family}
 use Rattle.muart.specs.Reading.{ready-level, took}
 use Rattle.muart.specs.State.{with-begun, with-sensitive}
-
-abbrev pub same-family : Family → Family → Bool
-same-family I8085 I8085 = true
-same-family I8085 I8086 = false
-same-family I8086 I8085 = false
-same-family I8086 I8086 = true
 
 -- INT must be high, and no acknowledge may be begun
 abbrev pub free-to-take : Option ℕ → Option ℕ → Result ℕ Refusal

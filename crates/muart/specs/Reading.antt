@@ -9,14 +9,14 @@ use Rattle.levels.specs.Bytes.{byte}
 use Rattle.timers.specs.Access.{countOf}
 use Rattle.serial.specs.declared.transmitter.Transmitter.{Transmitter}
 use Rattle.serial.specs.Sending.{idle}
-use Rattle.muart.specs.declared.state.Control.{Control}
+use Rattle.registers.specs.declared.held.Control.{Control}
 use Rattle.muart.specs.declared.state.Flags.{Flags}
 use Rattle.muart.specs.declared.state.Rest.{Rest}
 use Rattle.muart.specs.declared.state.Sensitive.{Sensitive}
 use Rattle.muart.specs.declared.read.Reading.{Reading}
-use Rattle.muart.specs.declared.register.Register.{Register}
-use Rattle.muart.specs.declared.register.Register.the-variants.{Command1, Command2, Command3, Mode, Port1Control, Mask, InterruptAddress, Buffer, Pins, Timer, Status}
-use Rattle.muart.specs.Ports.{port-byte}
+use Rattle.registers.specs.declared.register.Register.{Register}
+use Rattle.registers.specs.declared.register.Register.the-variants.{Command1, Command2, Command3, Mode, Port1Control, Mask, InterruptAddress, Buffer, Pins, Timer, Status}
+use Rattle.registers.specs.Ports.{port-byte}
 
 -- the level that taking would pick
 abbrev pub ready-level : Rest → Sensitive → Option ℕ

@@ -4,8 +4,8 @@ use mathlib.Core.Bool.{Bool}
 use mathlib.Core.List.{List}
 use Rattle.std.specs.declared.option.Option.{Option}
 use Rattle.timers.specs.declared.timers.Timers.{Timers}
-use Rattle.muart.specs.declared.state.Registers.{Registers}
-use Rattle.muart.specs.declared.state.Pins.{Pins}
+use Rattle.registers.specs.declared.held.Registers.{Registers}
+use Rattle.registers.specs.declared.held.Pins.{Pins}
 use Rattle.muart.specs.declared.state.Dividers.{Dividers}
 use Rattle.muart.specs.declared.state.Serial.{Serial}
 use Rattle.serial.specs.declared.transmitter.Transmitter.{Transmitter}

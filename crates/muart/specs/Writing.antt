@@ -11,18 +11,18 @@ use Rattle.levels.specs.Sets.{union, minus, ended}
 use Rattle.levels.specs.Bytes.{flags}
 use Rattle.timing.specs.Run.{when}
 use Rattle.timers.specs.Access.{clearedTimers, written as timer-written, selected}
-use Rattle.muart.specs.declared.refusal.Refusal.{Refusal}
-use Rattle.muart.specs.declared.refusal.Refusal.the-variants.{UnlawfulWord}
-use Rattle.muart.specs.declared.pins.Port.{Port}
-use Rattle.muart.specs.declared.pins.Port.the-variants.{One, Two}
-use Rattle.muart.specs.declared.register.Register.{Register}
-use Rattle.muart.specs.declared.register.Register.the-variants.{Command1, Command2, Command3, Mode, Port1Control, Mask, InterruptAddress, Buffer, Pins, Timer, Status}
-use Rattle.muart.specs.declared.state.Control.{Control}
-use Rattle.muart.specs.declared.state.Registers.{Registers}
+use Rattle.registers.specs.declared.refusal.Refusal.{Refusal}
+use Rattle.registers.specs.declared.refusal.Refusal.the-variants.{UnlawfulWord}
+use Rattle.registers.specs.declared.pins.Port.{Port}
+use Rattle.registers.specs.declared.pins.Port.the-variants.{One, Two}
+use Rattle.registers.specs.declared.register.Register.{Register}
+use Rattle.registers.specs.declared.register.Register.the-variants.{Command1, Command2, Command3, Mode, Port1Control, Mask, InterruptAddress, Buffer, Pins, Timer, Status}
+use Rattle.registers.specs.declared.held.Control.{Control}
+use Rattle.registers.specs.declared.held.Registers.{Registers}
 use Rattle.muart.specs.declared.state.Dividers.{Dividers}
 use Rattle.muart.specs.declared.state.StandIn.{StandIn}
-use Rattle.muart.specs.declared.state.Pins as pins
-use Rattle.muart.specs.Words.{bit-of, lawful1, lawful2, lawful3, lawful-mode}
+use Rattle.registers.specs.declared.held.Pins as pins
+use Rattle.registers.specs.Words.{bit-of, lawful1, lawful2, lawful3, lawful-mode}
 use Rattle.muart.specs.State.{with-registers, with-mask, with-timers, with-dividers, with-requests, with-service, with-receiver}
 use Rattle.muart.specs.Serial.{sent}
 use Rattle.muart.specs.declared.state.Serial.{Serial}

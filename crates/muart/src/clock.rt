@@ -9,8 +9,8 @@ use crate::firing::record_fired;
 use crate::firing::timer_modes;
 use crate::firing::watched;
 use crate::state::StandIn;
-use crate::words::divide;
-use crate::words::prescale;
+use registers::words::divide;
+use registers::words::prescale;
 use serial::rate::rate_step;
 use timers::FAR;
 

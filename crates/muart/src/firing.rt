@@ -2,8 +2,8 @@
 ghost use mathlib.Core.Path.{_≡_};
 ghost use Rattle.muart.specs.Firing.{modes-of, fired-requests, fired-mask, unasked as is-unasked, heeded as is-heeded, watched as timers-watched};
 ghost use Prim.Native.Nat.{_<_};
-use crate::state::Registers;
-use crate::words::bit;
+use registers::held::Registers;
+use registers::words::bit;
 use timers::Fired;
 use timers::TimerModes;
 

@@ -1,15 +1,10 @@
 // The stand-in: what stands in the socket of an 8256 multifunction UART.
 pub mod clock;
 pub mod firing;
-pub mod latch;
 pub mod look;
 pub mod pin_call;
-pub mod pins;
 pub mod pulse;
 pub mod read;
-pub mod refusal;
-pub mod register;
 pub mod serial_side;
 pub mod state;
-pub mod words;
 pub mod write;

@@ -3,10 +3,10 @@ ghost use mathlib.Core.Path.{_≡_};
 ghost use lib.ListN.{length};
 ghost use Rattle.muart.specs.Looks.{look-answer, look-writes};
 use crate::read::read;
-use crate::refusal::Refusal;
-use crate::register::Register;
 use crate::state::Rest;
 use crate::state::Sensitive;
+use registers::refusal::Refusal;
+use registers::register::Register;
 
 // Puts the read-sensitive record back, however the look ends.
 struct Guard<'a> {

@@ -3,17 +3,17 @@ ghost use mathlib.Core.Path.{_≡_};
 ghost use Prim.Native.Nat.{_<_};
 ghost use Rattle.std.specs.Vec.{made};
 ghost use Rattle.muart.specs.Bounds.{Sound};
-ghost use Rattle.muart.specs.Ports.{placed};
+ghost use Rattle.registers.specs.Ports.{placed};
 ghost use Rattle.muart.specs.PinCalls.{set-outside, counts-two, counts-three, calls-one, rise as rise-of, fall as fall-of, pin-set, pin-tested};
 use crate::firing::record_fired;
 use crate::firing::timer_modes;
-use crate::pins::Pin;
-use crate::pins::drives;
-use crate::pins::outside_level;
-use crate::refusal::Refusal;
-use crate::state::Pins;
 use crate::state::StandIn;
-use crate::words::bit;
+use registers::held::Pins;
+use registers::pins::Pin;
+use registers::pins::drives;
+use registers::pins::outside_level;
+use registers::refusal::Refusal;
+use registers::words::bit;
 
 fn set_outside(pins: &mut Pins, pin: Pin, level: bool)
     requires { ⌜ placed pin ⌝ }

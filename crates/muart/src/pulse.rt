@@ -3,12 +3,12 @@ ghost use mathlib.Core.Path.{_≡_};
 ghost use mathlib.Core.Bool.{true};
 ghost use Prim.Native.Nat.{_<_};
 ghost use Rattle.std.specs.Vec.{made};
-ghost use Rattle.muart.specs.Pulses.{same-family, pulse-level, pulsed, single-answer, single-level, first-answer, first-level, begins, second-answer, second-leaves};
+ghost use Rattle.muart.specs.Pulses.{pulse-level, pulsed, single-answer, single-level, first-answer, first-level, begins, second-answer, second-leaves};
 ghost use Rattle.muart.specs.Bounds.{Sound};
 use crate::read::interrupts;
-use crate::refusal::Refusal;
 use crate::state::StandIn;
-use crate::words::Family;
+use registers::refusal::Refusal;
+use registers::words::Family;
 
 // The first pulse of the 8086 family leaves this half of an acknowledge with the host. Only the second pulse
 // spends it, and one that is not spent cannot be let go.
@@ -35,18 +35,6 @@ pub struct Acknowledged {
 pub struct Begun {
     pub half: Half,
     pub level: u8,
-}
-
-impl Family {
-    fn is(self, other: Family) -> bool
-        ensures { λ r. ⌜ r ≡ same-family self other ⌝ }
-    {
-        match (self, other) {
-            (Family::I8085, Family::I8085) => true,
-            (Family::I8086, Family::I8086) => true,
-            _ => false,
-        }
-    }
 }
 
 impl StandIn {

@@ -2,12 +2,12 @@
 ghost use mathlib.Core.Path.{_≡_};
 ghost use Prim.Native.Nat.{_≤_};
 ghost use Rattle.muart.specs.Reading.{weighs, control-byte, sending-bits, error-bits, status-byte, int-high, reading, read-leaves};
-use crate::pins::read_port;
-use crate::register::Register;
-use crate::state::Control;
 use crate::state::Flags;
 use crate::state::Rest;
 use crate::state::Sensitive;
+use registers::held::Control;
+use registers::pins::read_port;
+use registers::register::Register;
 use serial::transmitter::Transmitter;
 
 // What a read answers, and the level that it took.

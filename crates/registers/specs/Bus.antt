@@ -8,16 +8,16 @@ use Rattle.std.specs.declared.option.Option.the-variants.{Some, None}
 use Rattle.std.specs.declared.result.Result.{Result}
 use Rattle.std.specs.declared.result.Result.the-variants.{Ok, Err}
 use Rattle.std.specs.Options.{okOr}
-use Rattle.muart.specs.declared.refusal.Refusal.{Refusal}
-use Rattle.muart.specs.declared.refusal.Refusal.the-variants.{AddressTooHigh, NotSelected}
-use Rattle.muart.specs.declared.register.Register.{Register}
-use Rattle.muart.specs.declared.register.Register.the-variants.{Command1, Command2, Command3, Mode, Port1Control, Mask, InterruptAddress, Buffer, Pins, Timer, Status}
-use Rattle.muart.specs.declared.pins.Port.the-variants as port
+use Rattle.registers.specs.declared.refusal.Refusal.{Refusal}
+use Rattle.registers.specs.declared.refusal.Refusal.the-variants.{AddressTooHigh, NotSelected}
+use Rattle.registers.specs.declared.register.Register.{Register}
+use Rattle.registers.specs.declared.register.Register.the-variants.{Command1, Command2, Command3, Mode, Port1Control, Mask, InterruptAddress, Buffer, Pins, Timer, Status}
+use Rattle.registers.specs.declared.pins.Port.the-variants as port
 use Rattle.timers.specs.declared.modes.Number.the-variants as number
-use Rattle.muart.specs.declared.latch.Latched.{Latched}
-use Rattle.muart.specs.declared.words.Family.{Family}
-use Rattle.muart.specs.declared.words.Family.the-variants.{I8085, I8086}
-use Rattle.muart.specs.Words.{bit-of}
+use Rattle.registers.specs.declared.latch.Latched.{Latched}
+use Rattle.registers.specs.declared.words.Family.{Family}
+use Rattle.registers.specs.declared.words.Family.the-variants.{I8085, I8086}
+use Rattle.registers.specs.Words.{bit-of}
 
 -- place n of a list
 abbrev pub place : {X : Type 0} → List X → ℕ → Option X

@@ -6,13 +6,13 @@ use lib.Dec.{eqb, ltb}
 use lib.ListN.{getD}
 use Rattle.std.specs.declared.option.Option.{Option}
 use Rattle.std.specs.declared.option.Option.the-variants.{Some, None}
-use Rattle.muart.specs.declared.state.Registers.{Registers}
-use Rattle.muart.specs.declared.state.Pins.{Pins}
-use Rattle.muart.specs.declared.pins.Pin.{Pin}
-use Rattle.muart.specs.declared.pins.Pin.the-variants.{Port1, Port2, Cts, Extint}
-use Rattle.muart.specs.declared.pins.Port.{Port}
-use Rattle.muart.specs.declared.pins.Port.the-variants.{One, Two}
-use Rattle.muart.specs.Words.{bit-of}
+use Rattle.registers.specs.declared.held.Registers.{Registers}
+use Rattle.registers.specs.declared.held.Pins.{Pins}
+use Rattle.registers.specs.declared.pins.Pin.{Pin}
+use Rattle.registers.specs.declared.pins.Pin.the-variants.{Port1, Port2, Cts, Extint}
+use Rattle.registers.specs.declared.pins.Port.{Port}
+use Rattle.registers.specs.declared.pins.Port.the-variants.{One, Two}
+use Rattle.registers.specs.Words.{bit-of}
 
 -- codes 0-7 are P10-P17, 8-15 P20-P27, 16 CTS, 17 EXTINT
 abbrev pub pin-of : ℕ → Option Pin

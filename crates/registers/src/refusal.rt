@@ -1,6 +1,6 @@
 // Why a call is refused.
 ghost use mathlib.Core.Path.{_≡_};
-ghost use Rattle.muart.specs.Refusals.{number-of};
+ghost use Rattle.registers.specs.Refusals.{number-of};
 
 // Each refusal has the number that listings show. The tests of a call run in the order of these numbers.
 #[derive(Clone, Copy)]

@@ -5,7 +5,7 @@ use mathlib.Core.Path.{_≡_, refl, sym, ap, _∙_}
 use native.Mathlib.Omega.{arith}
 use native.Mathlib.Numerals.{add-one}
 use native.Mathlib.Nat.{pow-suc}
-use Rattle.muart.specs.Ports.{byte-below}
+use Rattle.registers.specs.Ports.{byte-below}
 
 pub weight-fits : (on : Bool) (n : ℕ) → cond on (2 ^ n) 0 < 2 ^ n + 1
 weight-fits true n = omega arith

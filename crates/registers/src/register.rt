@@ -1,6 +1,6 @@
 // The sixteen registers.
 ghost use mathlib.Core.Path.{_≡_};
-ghost use Rattle.muart.specs.Bus.{register-of};
+ghost use Rattle.registers.specs.Bus.{register-of};
 use crate::pins::Port;
 use timers::Number;
 

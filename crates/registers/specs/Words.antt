@@ -1,9 +1,9 @@
 -- The bits of the command and mode words.
 use Prim.Native.Nat.{ℕ, _/_, _%_, _^_}
-use mathlib.Core.Bool.{Bool, not, _&&_, cond}
+use mathlib.Core.Bool.{Bool, true, false, not, _&&_, cond}
 use lib.Dec.{eqb, leb}
-use Rattle.muart.specs.declared.words.Family.{Family}
-use Rattle.muart.specs.declared.words.Family.the-variants.{I8085, I8086}
+use Rattle.registers.specs.declared.words.Family.{Family}
+use Rattle.registers.specs.declared.words.Family.the-variants.{I8085, I8086}
 
 -- bit k of a byte
 abbrev pub bit-of : ℕ → ℕ → Bool
@@ -12,6 +12,13 @@ bit-of k b = eqb (b / 2 ^ k % 2) 1
 -- command 1, bit 1: 1 is the 8086 family
 abbrev pub family-of : ℕ → Family
 family-of command1 = cond (bit-of 1 command1) I8086 I8085
+
+-- whether two families are one
+abbrev pub same-family : Family → Family → Bool
+same-family I8085 I8085 = true
+same-family I8085 I8086 = false
+same-family I8086 I8085 = false
+same-family I8086 I8086 = true
 
 -- the prescaler for the two-bit code
 abbrev pub prescale-code : ℕ → ℕ

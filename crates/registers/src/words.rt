@@ -1,7 +1,7 @@
 // What the bits of the command and mode words say.
 ghost use mathlib.Core.Path.{_≡_};
 ghost use Prim.Native.Nat.{_<_, _≤_};
-ghost use Rattle.muart.specs.Words.{bit-of, family-of, prescale-of, divide-of, lawful1, lawful2, lawful3, lawful-mode};
+ghost use Rattle.registers.specs.Words.{bit-of, family-of, same-family, prescale-of, divide-of, lawful1, lawful2, lawful3, lawful-mode};
 
 // The host's processor family: it decides how addresses and acknowledge pulses are read.
 #[derive(Clone, Copy)]
@@ -25,6 +25,16 @@ impl Family {
             Family::I8086
         } else {
             Family::I8085
+        }
+    }
+
+    pub fn is(self, other: Family) -> bool
+        ensures { λ r. ⌜ r ≡ same-family self other ⌝ }
+    {
+        match (self, other) {
+            (Family::I8085, Family::I8085) => true,
+            (Family::I8086, Family::I8086) => true,
+            _ => false,
         }
     }
 }

@@ -1,7 +1,7 @@
 -- The number of each refusal.
 use Prim.Native.Nat.{ℕ}
-use Rattle.muart.specs.declared.refusal.Refusal.{Refusal}
-use Rattle.muart.specs.declared.refusal.Refusal.the-variants.{AddressTooHigh, NotSelected, UnlawfulWord, AcknowledgeDisabled, WrongFamily, InterruptLow, AlreadyBegun, NoneBegun, SpanTooLong, ClockPastEnd, NoSuchPin, OutputPin, ScriptLine, PlaceTooShort, NoSuchRegister}
+use Rattle.registers.specs.declared.refusal.Refusal.{Refusal}
+use Rattle.registers.specs.declared.refusal.Refusal.the-variants.{AddressTooHigh, NotSelected, UnlawfulWord, AcknowledgeDisabled, WrongFamily, InterruptLow, AlreadyBegun, NoneBegun, SpanTooLong, ClockPastEnd, NoSuchPin, OutputPin, ScriptLine, PlaceTooShort, NoSuchRegister}
 
 abbrev pub number-of : Refusal → ℕ
 number-of AddressTooHigh = 1

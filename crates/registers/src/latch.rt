@@ -1,6 +1,6 @@
 // The latched address of a bus cycle.
 ghost use mathlib.Core.Path.{_≡_};
-ghost use Rattle.muart.specs.Bus.{strobed};
+ghost use Rattle.registers.specs.Bus.{strobed};
 use crate::refusal::Refusal;
 use crate::register::Register;
 use crate::words::Family;

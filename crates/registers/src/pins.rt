@@ -3,9 +3,9 @@ ghost use mathlib.Core.Path.{_≡_};
 ghost use Prim.Native.Nat.{_<_, _^_};
 ghost use mathlib.Core.Bool.{cond};
 ghost use Rattle.std.specs.Slices.{found};
-ghost use Rattle.muart.specs.Ports.{pin-of, placed, used-as-input, is-output, outside, latch-at, level-at, pin-at, port-byte};
-use crate::state::Pins;
-use crate::state::Registers;
+ghost use Rattle.registers.specs.Ports.{pin-of, placed, used-as-input, is-output, outside, latch-at, level-at, pin-at, port-byte};
+use crate::held::Pins;
+use crate::held::Registers;
 use crate::words::bit;
 
 // A pin of port 1 or 2 by its place, or one of the two others that have a code.

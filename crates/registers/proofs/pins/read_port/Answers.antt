@@ -1,6 +1,6 @@
-use Rattle.muart.specs.Ports.{level-at, pin-at}
-use Rattle.muart.proofs.Bytes.{byte-more}
-use Rattle.muart.proofs.pins.read_port.Needs as need
+use Rattle.registers.specs.Ports.{level-at, pin-at}
+use Rattle.registers.proofs.Bytes.{byte-more}
+use Rattle.registers.proofs.pins.read_port.Needs as need
 
 pub loop-place-again : need.loop-place-again
 loop-place-again c =

@@ -1,0 +1,4 @@
+pub mod Refusals
+pub mod Words
+pub mod Bus
+pub mod Ports
