@@ -1,5 +1,6 @@
 -- Script lines run one after the other.
-use Prim.Native.Nat.{ℕ}
+use Prim.Native.Nat.{ℕ, suc}
+use mathlib.Core.Path.{_≡_}
 use mathlib.Core.Bool.{cond}
 use mathlib.Core.List.{List, [], _∷_, _++_}
 use lib.Dec.{ltb}
@@ -36,3 +37,17 @@ line-calls number line s = cond (ltb last-line number) [] (item-calls (parsed li
 
 abbrev pub line-prints : ℕ → List ℕ → State → Option (List ℕ)
 line-prints number line s = cond (ltb last-line number) None (item-prints number (parsed line) s)
+
+-- where the lines of a script, numbered from n on, leave a board
+abbrev pub script-leaves : ℕ → List (List ℕ) → State → State
+script-leaves n [] s = s
+script-leaves n (line ∷ lines) s = script-leaves (suc n) lines (ran (line-calls n line s) s)
+
+-- the calls that they make
+abbrev pub script-calls : ℕ → List (List ℕ) → State → List Call
+script-calls n [] s = []
+script-calls n (line ∷ lines) s = line-calls n line s ++ script-calls (suc n) lines (ran (line-calls n line s) s)
+
+-- a board after a script is the board after the history of the script's calls
+abbrev pub Script-is-a-history : Type 0
+Script-is-a-history = (n : ℕ) (lines : List (List ℕ)) (s : State) → script-leaves n lines s ≡ ran (script-calls n lines s) s

@@ -6,8 +6,11 @@ ghost use Rattle.std.specs.declared.result.Result.the-variants.{Ok};
 ghost use Rattle.script.specs.Lines.{itemContent};
 ghost use Rattle.board.specs.Perform.{state};
 ghost use Rattle.board.specs.Histories.{ran};
+ghost use Rattle.board.specs.Cuts.{Cut-does-not-show};
+ghost use Rattle.board.specs.ServiceStack.{Service-is-a-stack};
+ghost use Rattle.board.specs.Draining.{Requests-drain};
 ghost use Rattle.bench.specs.Operations.{line-of, fault-line};
-ghost use Rattle.bench.specs.Scripts.{item-calls, item-prints, line-calls, line-prints};
+ghost use Rattle.bench.specs.Scripts.{item-calls, item-prints, line-calls, line-prints, Script-is-a-history};
 use crate::operations::operate;
 use board::Board;
 use board::ServiceMark;
@@ -80,7 +83,25 @@ fn run_item(
 }
 
 // Runs one line of a script, counted from 1, and gives what is listed of it. A line past the last is not run.
+// The lines of a script make a history of the board, so all that holds over histories holds of it.
 pub fn run_line(
+    board: &mut Board<Loopback>,
+    wires: &mut Recorder<'_, WireMark>,
+    services: &mut Recorder<'_, ServiceMark>,
+    number: u32,
+    line: &[u8],
+) -> Option<[u8; 29]>
+    ensures prints { λ r. ⌜ r ≡ line-prints number (now (line .entry)) (state plug (now (board .entry) .inner) (now (wires .entry)) (now (services .entry))) ⌝ }
+    ensures state { λ _. ⌜ state plug (now (board .exit) .inner) (now (wires .exit)) (now (services .exit)) ≡ ran (line-calls number (now (line .entry)) (state plug (now (board .entry) .inner) (now (wires .entry)) (now (services .entry)))) (state plug (now (board .entry) .inner) (now (wires .entry)) (now (services .entry))) ⌝ }
+    ensures script { λ _. ⌜ Script-is-a-history ⌝ }
+    ensures cuts { λ _. ⌜ Cut-does-not-show ⌝ }
+    ensures service { λ _. ⌜ Service-is-a-stack ⌝ }
+    ensures draining { λ _. ⌜ Requests-drain ⌝ }
+{
+    run_numbered(board, wires, services, number, line)
+}
+
+fn run_numbered(
     board: &mut Board<Loopback>,
     wires: &mut Recorder<'_, WireMark>,
     services: &mut Recorder<'_, ServiceMark>,

@@ -33,15 +33,15 @@ mask-kept : (p c f3 f5 n3 n7 : Bool) (mask : List Bool) → (f3 && (getD mask 3 
 mask-kept true c f3 f5 n3 n7 mask e f = not-enabled (c && f3) 3 mask (own-quiet c true f3 (getD mask 3 false) n3 refl e)
 mask-kept false c f3 f5 n3 n7 mask e f = not-enabled (c && f5) 7 mask (own-quiet c true f5 (getD mask 7 false) n7 refl f)
 
-module _ (g : Registers) (f : Fired) (mask requests : List Bool) (q : Quiet f (watched g mask requests)) where
+module _ (g : Registers) (f : Fired) (mask recorded : List Bool) (q : Quiet f (watched g mask recorded)) where
   -- what is not watched changes nothing
-  pub requests-kept : fired-requests g f mask requests ≡ requests
+  pub requests-kept : fired-requests g f mask recorded ≡ recorded
   requests-kept =
-      ap (λ r. request-if (f .five) 7 mask (request-if (f .four) 6 mask (request-if (f .three) 3 mask (request-if (f .two && not (biti-of g)) 1 mask r)))) (not-fresh (f .one) 0 mask requests (q .one))
-      ∙ ap (λ r. request-if (f .five) 7 mask (request-if (f .four) 6 mask (request-if (f .three) 3 mask r))) (not-fresh (f .two && not (biti-of g)) 1 mask requests (two-quiet (f .two) (biti-of g) (unasked 1 mask requests) (q .two)))
-      ∙ ap (λ r. request-if (f .five) 7 mask (request-if (f .four) 6 mask r)) (not-fresh (f .three) 3 mask requests (asks-quiet (f .three) (getD mask 3 false) _ (not (getD requests 3 false)) (q .three)))
-      ∙ ap (λ r. request-if (f .five) 7 mask r) (not-fresh (f .four) 6 mask requests (q .four))
-      ∙ not-fresh (f .five) 7 mask requests (asks-quiet (f .five) (getD mask 7 false) _ (not (getD requests 7 false)) (q .five))
+      ap (λ r. request-if (f .five) 7 mask (request-if (f .four) 6 mask (request-if (f .three) 3 mask (request-if (f .two && not (biti-of g)) 1 mask r)))) (not-fresh (f .one) 0 mask recorded (q .one))
+      ∙ ap (λ r. request-if (f .five) 7 mask (request-if (f .four) 6 mask (request-if (f .three) 3 mask r))) (not-fresh (f .two && not (biti-of g)) 1 mask recorded (two-quiet (f .two) (biti-of g) (unasked 1 mask recorded) (q .two)))
+      ∙ ap (λ r. request-if (f .five) 7 mask (request-if (f .four) 6 mask r)) (not-fresh (f .three) 3 mask recorded (asks-quiet (f .three) (getD mask 3 false) _ (not (getD recorded 3 false)) (q .three)))
+      ∙ ap (λ r. request-if (f .five) 7 mask r) (not-fresh (f .four) 6 mask recorded (q .four))
+      ∙ not-fresh (f .five) 7 mask recorded (asks-quiet (f .five) (getD mask 7 false) _ (not (getD recorded 7 false)) (q .five))
 
   pub levels-kept : fired-mask g f mask ≡ mask
   levels-kept = mask-kept (modes-of g .t35) (modes-of g .t5c) (f .three) (f .five) _ _ mask (q .three) (q .five)
