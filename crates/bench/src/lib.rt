@@ -1,4 +1,7 @@
 // The bench: script lines run against a board with a loopback plug.
+
+#![tactic(auto)]
+
 mod operations;
 mod runner;
 

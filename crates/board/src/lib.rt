@@ -1,4 +1,7 @@
 // The board: the stand-in beside a line partner, and every call that is made of it.
+
+#![tactic(auto)]
+
 mod calls;
 mod inner;
 mod inner_calls;

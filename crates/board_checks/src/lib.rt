@@ -1,4 +1,7 @@
 // Checks of what no script can reach: halves that are kept, places that are too short, and the end of the clock.
+
+#![tactic(auto)]
+
 #[cfg(test)]
 mod tests {
     use board::{Board, ServiceMark, WireMark};

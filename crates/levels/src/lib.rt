@@ -1,4 +1,7 @@
 // The eight interrupt levels: which request, which are in service, and which one is ready.
+
+#![tactic(auto)]
+
 mod bytes;
 mod closing;
 mod masks;

@@ -1,4 +1,7 @@
 // What drives a receiver's RxD pin and hears its TxD pin.
+
+#![tactic(auto)]
+
 mod loopback;
 mod partner;
 mod recorded;

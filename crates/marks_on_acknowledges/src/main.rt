@@ -1,4 +1,7 @@
 // Runs the script on standard input against a board with a loopback plug, and prints the marks of both recorders.
+
+#![tactic(auto)]
+
 use std::io;
 
 fn main(rt: HostRuntime) -> io::Result<()> {

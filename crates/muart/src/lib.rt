@@ -1,4 +1,7 @@
 // The stand-in: what stands in the socket of an 8256 multifunction UART.
+
+#![tactic(auto)]
+
 pub mod clock;
 pub mod firing;
 pub mod look;

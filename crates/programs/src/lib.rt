@@ -1,4 +1,7 @@
 // The programs' work on their streams.
+
+#![tactic(auto)]
+
 mod lister;
 mod marks_printer;
 mod reading;

@@ -1,4 +1,7 @@
 // The registers as the host sees them: addresses, words, ports and pins, and why a call is refused.
+
+#![tactic(auto)]
+
 pub mod held;
 pub mod latch;
 pub mod pins;

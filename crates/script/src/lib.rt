@@ -1,4 +1,7 @@
 // Reads the lines of a script: one operation a line, in fixed columns that count from 1.
+
+#![tactic(auto)]
+
 mod codes;
 mod fields;
 mod items;

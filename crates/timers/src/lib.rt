@@ -1,4 +1,7 @@
 // The five timers: counts that each step lowers, alone or joined in pairs.
+
+#![tactic(auto)]
+
 mod count;
 mod duo;
 mod modes;
