@@ -1,5 +1,5 @@
 use Rattle.std.specs.Prelude.{◌≡◌, ℕ, ◌+◌, ◌-◌, ◌^◌, ◌≤◌, min, cond, List, [], ◌∷◌, ◌++◌, length, take, drop, nat_lt}
-use Rattle.std.specs.Borrow.{Bor}
+use Rattle.std.specs.Borrow.{MutBor}
 use Rattle.recorder.specs.declared.recorder.Recorder.{Recorder}
 
 -- What a recorder has recorded: how many slots its room has, the marks kept, and how many were made.
@@ -9,7 +9,7 @@ pub record Recording (T : Type 0) : Type 0 where
   pub count : ℕ
 
 -- The room that the host lent.
-abbrev pub lent : {T : Type 0} → Recorder T → Bor (List T)
+abbrev pub lent : {T : Type 0} → Recorder T → MutBor (List T)
 lent r = r.room
 
 -- What the slots of the room hold.

@@ -14,7 +14,7 @@ returns-in-Step c =
     let is = sym (ap (λ i. Ok (item_content i)) c.in-Step.is) in
     record {
       prints =
-          step_prints c.args.number c.in-Step.operation s _ _ _ _ _ c.operate-answer.ensures.answer c.operate-answer.ensures.state c.clock.ensures.value c.line-of.ensures c.write-line.ensures.columns
+          step_prints c.args.number c.in-Step.operation s _ _ _ _ _ c.operate-answer.ensures.answer c.operate-answer.ensures.state c.clock.ensures.value c.line_of.ensures c.write_line.ensures.columns
           ∙ ap (λ p. item_prints c.args.number p s) is;
       state = c.operate-answer.ensures.state ∙ ap (λ p. ran (item_calls p s) s) is;
     }

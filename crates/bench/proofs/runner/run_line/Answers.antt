@@ -6,8 +6,8 @@ use Rattle.bench.proofs.runner.run_line.Goals as goal
 
 pub returns : goal.returns
 returns c = record {
-  prints = c.run-numbered.ensures.prints;
-  state = c.run-numbered.ensures.state;
+  prints = c.run_numbered.ensures.prints;
+  state = c.run_numbered.ensures.state;
   script = script_is_a_history;
   cuts = cut_does_not_show;
   service = service_is_a_stack;

@@ -10,8 +10,8 @@ returns-in-Ok c =
     let s = state plug c.args.board.now.inner c.args.wires.now c.args.services.now in
     let said = c.in-Ok.ensures in
     record {
-      prints = c.run-item.ensures.prints ∙ prints c.args.number c.args.line.now s c.if-number-gt-LAST-LINE.false _ said;
-      state = c.run-item.ensures.state ∙ leaves c.args.number c.args.line.now s c.if-number-gt-LAST-LINE.false _ said;
+      prints = c.run_item.ensures.prints ∙ prints c.args.number c.args.line.now s c.if-number-gt-LAST_LINE.false _ said;
+      state = c.run_item.ensures.state ∙ leaves c.args.number c.args.line.now s c.if-number-gt-LAST_LINE.false _ said;
     }
 
 pub returns-in-Err : goal.returns-in-Err
@@ -20,7 +20,7 @@ returns-in-Err c =
     let said = c.in-Err.ensures in
     record {
       prints =
-          ap Some (c.write-line.ensures.columns ∙ ap layout c.fault-line.ensures.value)
-          ∙ prints c.args.number c.args.line.now s c.if-number-gt-LAST-LINE.false _ said;
-      state = leaves c.args.number c.args.line.now s c.if-number-gt-LAST-LINE.false _ said;
+          ap Some (c.write_line.ensures.columns ∙ ap layout c.fault_line.ensures.value)
+          ∙ prints c.args.number c.args.line.now s c.if-number-gt-LAST_LINE.false _ said;
+      state = leaves c.args.number c.args.line.now s c.if-number-gt-LAST_LINE.false _ said;
     }

@@ -5,7 +5,7 @@ use Rattle.board.proofs.marks.mark_closed.Goals as goal
 pub loop-level-preserved : goal.loop-level-preserved
 loop-level-preserved c =
     let within : c.loop-level.level < length c.args.closed.now = omega arith in
-    mark_turn c.args.clock c.args.closed.now c.loop-level.level _ _ _ _ within refl c.loop-level.invariant c.mark-closed-level.ensures
+    mark_turn c.args.clock c.args.closed.now c.loop-level.level _ _ _ _ within refl c.loop-level.invariant c.mark_closed_level.ensures
 
 pub returns : goal.returns
 returns c =

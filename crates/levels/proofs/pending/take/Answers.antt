@@ -7,6 +7,6 @@ returns-then-nesting c = record {
   picks = search rules;
   after = search rules;
   within = search rules;
-  opens = ready_opens (Some c.in-ok-level.level) c.requesting.result c.args.pending.now.service
-      c.args.nesting c.in-ok-level.ensures.picks;
+  opens = ready_opens (Some c.in_ok-level.level) c.requesting.result c.args.pending.now.service
+      c.args.nesting c.in_ok-level.ensures.picks;
 }

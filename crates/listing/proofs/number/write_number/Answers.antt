@@ -9,7 +9,7 @@ loop-place-init c = (sym (div-one c.args.number), drop_all (length c.args.column
 pub loop-place-preserved : goal.loop-place-preserved
 loop-place-preserved c =
     let left = c.loop-place.invariant.0 in
-    let byte = c.byte-at.ensures ∙ byte_is c.args.number _ _ left in (
+    let byte = c.byte_at.ensures ∙ byte_is c.args.number _ _ left in (
       rest_more c.args.number _ _ left,
       more c.args.number _ _ _ _ c.loop-place.auto.columns c.loop-place-test.true byte c.loop-place.invariant.1,
     )

@@ -6,9 +6,9 @@ use Rattle.muart.proofs.look.look.Goals as goal
 pub loop-at-init : goal.loop-at-init
 loop-at-init c = (refl, refl, c.if-place-registers.false)
 
-pub returns-in-default : goal.returns-in-default
-returns-in-default c =
-    let e = sym c.numbered.ensures ∙ c.in-default.is in
+pub returns-in_default : goal.returns-in_default
+returns-in_default c =
+    let e = sym c.numbered.ensures ∙ c.in_default.is in
     let room = le-ltb _ _ c.if-place-registers.false in
     record {
       answer = rw room (sym (c.loop-at.invariant.1 ∙ known_stops _ _ c.loop-at-test.true e));

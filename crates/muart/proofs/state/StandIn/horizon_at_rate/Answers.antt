@@ -5,7 +5,7 @@ use Rattle.muart.proofs.state.StandIn.horizon_at_rate.Goals as goal
 
 pub returns-then-step-eq0 : goal.returns-then-step-eq0
 returns-then-step-eq0 c =
-    let idle = sym c.rate-step-step.ensures.value ∙ c.if-step-eq0.true in
+    let idle = sym c.rate_step-step.ensures.value ∙ c.if-step-eq0.true in
     record {
       value = sym (ap (λ r. quiet_at_rate r c.args.self.now) idle);
       within = λ n h. no_tick _ n _ _ idle c.requires.remainder;

@@ -3,14 +3,14 @@ use Rattle.script.proofs.Filling.{fits, full}
 use Rattle.script.specs.Buffers.{kept}
 use Rattle.script.proofs.line_buffer.LineBuffer.push.Goals as goal
 
-pub returns-in-ok-push : goal.returns-in-ok-push
-returns-in-ok-push c =
+pub returns-in_ok-push : goal.returns-in_ok-push
+returns-in_ok-push c =
     let same = c.args.self.now.bytes.ok.0 in
     let few : length (kept c.args.self.now) < 81 = omega arith in
-    c.in-ok-push.ensures.items ∙ fits (kept c.args.self.now) c.args.byte few
+    c.in_ok-push.ensures.items ∙ fits (kept c.args.self.now) c.args.byte few
 
-pub returns-else-len-lt-KEPT-BYTES : goal.returns-else-len-lt-KEPT-BYTES
-returns-else-len-lt-KEPT-BYTES c =
+pub returns-else-len-lt-KEPT_BYTES : goal.returns-else-len-lt-KEPT_BYTES
+returns-else-len-lt-KEPT_BYTES c =
     let same = c.args.self.now.bytes.ok.0 in
     let most = c.args.self.now.within in
     let all : length (kept c.args.self.now) ≡ 81 = omega arith in

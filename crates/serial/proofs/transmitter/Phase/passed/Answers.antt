@@ -5,6 +5,6 @@ use Rattle.serial.proofs.transmitter.Phase.passed.Goals as goal
 
 pub returns-in-Data : goal.returns-in-Data
 returns-in-Data c = record {
-  value = c.past-bit.ensures.value ∙ last_of_bit c.in-Data.sending c.in-Data.place c.if-sending-le1-2.true ∙ sym (ap passed c.in-Data.is);
-  kept = c.past-bit.ensures.kept;
+  value = c.past_bit.ensures.value ∙ last_of_bit c.in-Data.sending c.in-Data.place c.if-sending-le1-2.true ∙ sym (ap passed c.in-Data.is);
+  kept = c.past_bit.ensures.kept;
 }

@@ -24,9 +24,9 @@ pub returns-after-on : goal.returns-after-on
 returns-after-on c =
     let is = c.in-Joined.is in
     let d = c.args.self.now in
-    let below : value_of d < 65536 = omega (arith, c.value.ensures.joined, c.value.type-inv) in
-    let b : c.if-on.quiet-steps ≡ (c.in-Joined.on && c.args.watched.pair) = grind arith in
-    let e : c.quiet-steps.result ≡ wait (c.in-Joined.on && c.args.watched.pair) 65536 (value_of d) = cc in
+    let below : value_of d < 65536 = omega (arith, c.value.ensures.joined, c.value.type_inv) in
+    let b : c.if-on.quiet_steps ≡ (c.in-Joined.on && c.args.watched.pair) = grind arith in
+    let e : c.quiet_steps.result ≡ wait (c.in-Joined.on && c.args.watched.pair) 65536 (value_of d) = cc in
     record {
       value = simp is e;
       quiet = simp (is, e) (joined_quiet c.in-Joined.on c.args.watched d below);

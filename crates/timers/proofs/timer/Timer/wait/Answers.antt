@@ -6,8 +6,8 @@ use Rattle.timers.proofs.timer.Timer.wait.Goals as goal
 pub returns : goal.returns
 returns c =
     let h : c.args.self.now.count < 256 = omega arith in
-    let b : c.if-on.quiet-steps ≡ (c.args.on && c.args.watched) = grind arith in
-    let e : c.quiet-steps.result ≡ wait (c.args.on && c.args.watched) 256 c.args.self.now.count = cc in
+    let b : c.if-on.quiet_steps ≡ (c.args.on && c.args.watched) = grind arith in
+    let e : c.quiet_steps.result ≡ wait (c.args.on && c.args.watched) 256 c.args.self.now.count = cc in
     record {
       value = e;
       quiet = rw e (timer_quiet c.args.on c.args.watched c.args.self.now h);

@@ -14,5 +14,5 @@ loop-left-preserved c =
 
 pub returns : goal.returns
 returns c =
-    let ends = tape_ends c.loop-left.self c.loop-left.clocks c.in-default.ensures.clocks in
+    let ends = tape_ends c.loop-left.self c.loop-left.clocks c.in_default.ensures.clocks in
     search rules
