@@ -1,7 +1,7 @@
 -- Standing requests drain.
 use Rattle.std.proofs.Common.{◌≡◌, ℕ, zero, suc, ◌+◌, ◌*◌, ◌<◌, ◌≤◌, Bool, true, false, cond, not, ◌&&◌, eqb, List, [], ◌∷◌, ◌++◌, map, length, get_or, drop, set, replicate, Some, None, Ok, Err, Option, Result, sym, refl, ap, ◌∙◌, subst, suc-le-suc, zero-le, le_of_suc-le-suc, not-suc-le-zero, arith, length-set}
 use lib.ListN.{length-map}
-use Rattle.std.specs.List.{AllByRecursion as All}
+use Rattle.std.specs.List.{AllByRecursion}
 use Rattle.std.proofs.lemmas.Bool.{both_ways}
 use Rattle.std.proofs.lemmas.List.{get_or-map, get_or-append-add}
 use Rattle.timing.specs.Run.{times}
@@ -453,12 +453,12 @@ module _ (c : ℕ) where
   Reads p = (strobed p.0 (family_of c) ≡ Ok InterruptAddress) × Ends p.1
 
   -- END words close one level each, and nothing else changes
-  ends_leave : (ends : List Latched) (s : State) (q ss : List Bool) → Standing c q ss s.board.unit → All Ends ends
+  ends_leave : (ends : List Latched) (s : State) (q ss : List Bool) → Standing c q ss s.board.unit → AllByRecursion Ends ends
       → Standing c q (times (length ends) ended ss) (ran (map end_word ends) s).board.unit
   ends_leave [] s q ss h k = h
   ends_leave (l ∷ ends) s q ss h k = ends_leave ends (after (end_word l) s) q (ended ss) (end_leaves c q ss l s.board h k.0) k.1
 
-  ends_answer : (ends : List Latched) (cs : List Call) (s : State) (q ss : List Bool) → Standing c q ss s.board.unit → All Ends ends
+  ends_answer : (ends : List Latched) (cs : List Call) (s : State) (q ss : List Bool) → Standing c q ss s.board.unit → AllByRecursion Ends ends
       → answers (map end_word ends ++ cs) s ≡ replicate (length ends) done ++ answers cs (ran (map end_word ends) s)
   ends_answer [] cs s q ss h k = refl
   ends_answer (l ∷ ends) cs s q ss h k = λ i.
@@ -488,7 +488,7 @@ module _ (c : ℕ) where
     end_one : answered (end_word p.1) (after (address_read p.0) s).board ≡ done
     end_one = end_answers c (ended q) (opened (lowest q) no_level) p.1 (after (address_read p.0) s).board taken_one k.1
 
-  reads_answer : (pairs : List (Latched × Latched)) (s : State) (q : List Bool) → Standing c q no_level s.board.unit → length q ≡ 8 → All Reads pairs
+  reads_answer : (pairs : List (Latched × Latched)) (s : State) (q : List Bool) → Standing c q no_level s.board.unit → length q ≡ 8 → AllByRecursion Reads pairs
       → answers (address_reads pairs) s ≡ one_a_read (length pairs) q
   unfolding one_a_read
   reads_answer [] s q h eight k = refl
@@ -496,7 +496,7 @@ module _ (c : ℕ) where
       read_one s q h eight p k.0 i ∷ end_one s q h eight p k.0 i
       ∷ reads_answer pairs (after (end_word p.1) (after (address_read p.0) s)) (ended q) (closed_one s q h eight p k.0) (length_ended q ∙ eight) k.1 i
 
-  reads_leave : (pairs : List (Latched × Latched)) (s : State) (q : List Bool) → Standing c q no_level s.board.unit → length q ≡ 8 → All Reads pairs
+  reads_leave : (pairs : List (Latched × Latched)) (s : State) (q : List Bool) → Standing c q no_level s.board.unit → length q ≡ 8 → AllByRecursion Reads pairs
       → Standing c (times (length pairs) ended q) no_level (ran (address_reads pairs) s).board.unit
   reads_leave [] s q h eight k = h
   reads_leave (p ∷ pairs) s q h eight k =
@@ -510,7 +510,7 @@ standing_requests c q ss s h =
 -- from a state with eight places
 module _ (s : State) (ends : List Latched) (pairs : List (Latched × Latched)) (eight : Eight s.board.unit)
     (nie : s.board.unit.rest.registers.control.nie ≡ true) (low : s.board.unit.rest.pins.extint ≡ false)
-    (many : length ends ≡ 8) (ends_at : All (EndsAt s) ends) (reads_at : All (ReadsAt s) pairs) where
+    (many : length ends ≡ 8) (ends_at : AllByRecursion (EndsAt s) ends) (reads_at : AllByRecursion (ReadsAt s) pairs) where
   standing : Standing s.board.unit.rest.registers.command1 (requesting_in s) s.board.unit.sensitive.levels.service s.board.unit
   standing = (nie, low, refl, sym (ap (λ x. requesting s.board.unit.sensitive.levels.requests s.board.unit.rest.mask x) low), refl)
 

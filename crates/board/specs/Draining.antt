@@ -1,6 +1,6 @@
 -- Standing requests drain: eight END words, and then reads of the interrupt address, each followed by an END word.
 use Rattle.std.specs.Prelude.{◌≡◌, ℕ, zero, suc, ◌+◌, ◌*◌, ◌<◌, ◌≤◌, Bool, true, false, List, [], ◌∷◌, ◌++◌, map, length, get_or, drop, replicate, Ok, slice_index_or}
-use Rattle.std.specs.List.{AllByRecursion as All}
+use Rattle.std.specs.List.{AllByRecursion}
 use Rattle.levels.specs.Sets.{levels}
 use Rattle.levels.specs.Levels.{requesting}
 use Rattle.line.specs.Meaning.{Meaning}
@@ -67,5 +67,5 @@ RequestsDrain =
     (m : Meaning) (wires services : ℕ) (h : List Call) (ends : List Latched) (pairs : List (Latched × Latched)) →
     let s = ran h (start m wires services) in
     s.board.unit.rest.registers.control.nie ≡ true → s.board.unit.rest.pins.extint ≡ false
-    → length ends ≡ 8 → All (EndsAt s) ends → All (ReadsAt s) pairs
+    → length ends ≡ 8 → AllByRecursion (EndsAt s) ends → AllByRecursion (ReadsAt s) pairs
     → Drains s ends pairs

@@ -1,7 +1,7 @@
 -- The lowest place of a set: how a search from the front finds it, and that it stands within the set.
 use Rattle.std.proofs.Common.{◌≡◌, ℕ, suc, ◌+◌, ◌<◌, ◌≤◌, Bool, true, false, List, [], ◌∷◌, map, length, get_or, drop, IfSome, Some, None, Option, sym, refl, ap, ◌∙◌, add-zero, zero-add, arith}
 use Rattle.std.specs.Option.{option_map}
-use Rattle.std.specs.List.{AllByRecursion as All}
+use Rattle.std.specs.List.{AllByRecursion}
 use Rattle.std.proofs.lemmas.List.{drop_more, drop_all}
 use Rattle.std.proofs.lemmas.Bool.{both_ways}
 use Rattle.std.proofs.ByRecursion.{All-map, All-weaker}
@@ -78,11 +78,11 @@ lowest_within [] = tt
 lowest_within (true ∷ s) = omega arith
 lowest_within (false ∷ s) = found_suc (length s) (lowest s) (lowest_within s)
 
-all_suc : (n : ℕ) (ls : List ℕ) → All (λ l. l < n) ls → All (λ l. l < suc n) (map suc ls)
+all_suc : (n : ℕ) (ls : List ℕ) → AllByRecursion (λ l. l < n) ls → AllByRecursion (λ l. l < suc n) (map suc ls)
 all_suc n ls h = All-map (λ l. l < suc n) suc ls (All-weaker (λ l. l < n) (λ l. suc l < suc n) (λ l k. omega arith) ls h)
 
 -- every place that is set stands within the set
-pub levels_within : (s : List Bool) → All (λ l. l < length s) (levels s)
+pub levels_within : (s : List Bool) → AllByRecursion (λ l. l < length s) (levels s)
 levels_within [] = tt
 levels_within (true ∷ s) = (omega arith, all_suc (length s) (levels s) (levels_within s))
 levels_within (false ∷ s) = all_suc (length s) (levels s) (levels_within s)

@@ -1,7 +1,7 @@
 // Closing levels in service. They close lowest first, so service is a stack.
 ghost use Rattle.std.specs.Prelude.{◌≡◌, ◌<◌, false, replicate};
 ghost use Rattle.levels.specs.Sets.{lowest, levels, ended};
-ghost use Rattle.std.specs.List.{AllByRecursion as All};
+ghost use Rattle.std.specs.List.{AllByRecursion};
 ghost use Rattle.levels.specs.Levels.{Within, Closed};
 
 use crate::priority::lowest_of;
@@ -22,7 +22,7 @@ pub fn end(service: &mut [bool; 8]) -> Option<u8>
 pub fn close_all(service: &mut [bool; 8]) -> [bool; 8]
     ensures closes { result ≡ service.old }
     ensures after { service.new ≡ replicate 8 false }
-    ensures within { All (λ l. l < 8) (levels result) }
+    ensures within { AllByRecursion (λ l. l < 8) (levels result) }
 {
     let closed = *service;
     *service = [false; 8];
