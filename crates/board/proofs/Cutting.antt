@@ -20,7 +20,7 @@ use Rattle.board.specs.Cuts.{Item, did, elapsed, accepted, clocks_left, if_accep
 use Rattle.board.proofs.Clocks.{span_marks_add}
 
 -- n clocks of a board with its recorders
-abbrev clocks : ℕ → State → State
+abbrev pub clocks : ℕ → State → State
 clocks n s = record { board = times n clock_once s.board; wires = all_marked (span_marks n s.board) s.wires; services = s.services }
 
 -- what is left of a history, done over again, and its answers
@@ -45,7 +45,7 @@ answers_append (did c ∷ first) rest s = ap (λ l. answered c s.board ∷ l) (a
 answers_append (elapsed n ∷ first) rest s = answers_append first rest (clocks n s)
 
 -- n + m clocks are n clocks and then m
-clocks_add : (n m : ℕ) (s : State) → clocks (n + m) s ≡ clocks m (clocks n s)
+pub clocks_add : (n m : ℕ) (s : State) → clocks (n + m) s ≡ clocks m (clocks n s)
 clocks_add n m s = λ i. record {
   board = times_add n m clock_once s.board i;
   wires = (ap (λ ms. all_marked ms s.wires) (span_marks_add n m s.board) ∙ all_marked_append (span_marks n s.board) (span_marks m (times n clock_once s.board)) s.wires) i;
@@ -107,7 +107,7 @@ module _ (s : State) where
   pin_refused b (Ok p) e = absurd (true≢false e)
   pin_refused b (Err x) e = refl
 
-  abbrev spans : Result (Unit {0}) Refusal → ℕ → State
+  abbrev pub spans : Result (Unit {0}) Refusal → ℕ → State
   spans r n = record { board = spanned r n s.board; wires = all_marked (spanned_marks r n s.board) s.wires; services = s.services }
 
   span_refused : (n : ℕ) (r : Result (Unit {0}) Refusal) → accepted (plain_answer r) ≡ false → spans r n ≡ s
@@ -115,7 +115,7 @@ module _ (s : State) where
   span_refused n (Err x) e = refl
 
   -- and an accepted span runs its clocks
-  span_accepted : (n : ℕ) (r : Result (Unit {0}) Refusal) → accepted (plain_answer r) ≡ true → spans r n ≡ clocks n s
+  pub span_accepted : (n : ℕ) (r : Result (Unit {0}) Refusal) → accepted (plain_answer r) ≡ true → spans r n ≡ clocks n s
   span_accepted n (Ok t) e = refl
   span_accepted n (Err x) e = absurd (true≢false (sym e))
 
@@ -127,7 +127,7 @@ module _ (s : State) where
   clocks_unanswered zero a = refl
   clocks_unanswered (suc n) a = refl
 
-  refused_idle : (c : Call) → accepted (answered c s.board) ≡ false → after c s ≡ s
+  pub refused_idle : (c : Call) → accepted (answered c s.board) ≡ false → after c s ≡ s
   refused_idle (read l) e = read_refused (strobe_of l s.board) e
   refused_idle (write l w) e = write_refused w (strobe_of l s.board) e
   refused_idle pulse e = pulse_refused (pulse_level I8085 s.board.unit) e

@@ -1,6 +1,7 @@
 pub mod Clocks
 mod ClosedMarks
 pub mod Cutting
+pub mod SingleCalls
 pub mod Stacking
 pub mod Drained
 pub mod Worked

@@ -229,3 +229,7 @@ start m wires services = record { board = started m; wires = empty wires; servic
 -- a board and its recorders as the rule sees them
 abbrev pub state : {P : Type 0} → (P → Meaning) → Inner P → Recorder WireMark → Recorder ServiceMark → State
 state meaning b wires services = record { board = view meaning b; wires = recording wires; services = recording services }
+
+-- a board beside recorders that a call is not given
+abbrev pub beside : Recording WireMark → Recording ServiceMark → View → State
+beside wires services v = record { board = v; wires = wires; services = services }

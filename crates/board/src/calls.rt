@@ -1,11 +1,15 @@
 // Every call that is made of a board. None asks anything of its caller.
 ghost use Rattle.std.specs.Prelude.{◌≡◌, ◌≤◌};
+ghost use Rattle.recorder.specs.Recording.{Extended, Recording};
+ghost use Rattle.board.specs.declared.marks.WireMark.{WireMark as Wire};
+ghost use Rattle.board.specs.declared.marks.ServiceMark.{ServiceMark as Service};
 ghost use Rattle.board.specs.Views.{view, last_clock};
 ghost use Rattle.board.specs.Cuts.{CutDoesNotShow};
 ghost use Rattle.board.specs.ServiceStack.{ServiceIsAStack};
 ghost use Rattle.board.specs.Draining.{RequestsDrain};
+ghost use Rattle.board.specs.SingleCalls.{RefusedCallChangesNothing, SpansAdd};
 ghost use Rattle.board.specs.Examples.{WorkedExamples};
-ghost use Rattle.board.specs.Perform.{read as read_call, write as write_call, pulse, first_pulse, second_pulse, pin, span as span_call, look as look_call, snapshot as snapshot_call, reset as reset_call, done, looked, counts, byte_answer, plain_answer, answered, perform, state, started};
+ghost use Rattle.board.specs.Perform.{read as read_call, write as write_call, pulse, first_pulse, second_pulse, pin, span as span_call, look as look_call, snapshot as snapshot_call, reset as reset_call, done, looked, counts, byte_answer, plain_answer, answered, perform, state, beside, started};
 
 use crate::inner::Inner;
 use crate::marks::{ServiceMark, WireMark};
@@ -23,6 +27,8 @@ impl<P: Partner> Board<P> {
     // standing requests drain.
     pub fn power_up(partner: P) -> Board<P>
         ensures started { view P.Partner.meaning result.inner ≡ started (P.Partner.meaning partner) }
+        ensures refusals { RefusedCallChangesNothing }
+        ensures spans { SpansAdd }
         ensures cuts { CutDoesNotShow }
         ensures service { ServiceIsAStack }
         ensures draining { RequestsDrain }
@@ -61,6 +67,8 @@ impl<P: Partner> Board<P> {
     ) -> Result<u8, Refusal>
         ensures answer { byte_answer result ≡ (perform (read_call latched) (state P.Partner.meaning self.old.inner wires.old services.old)).1 }
         ensures state { state P.Partner.meaning self.new.inner wires.new services.new ≡ (perform (read_call latched) (state P.Partner.meaning self.old.inner wires.old services.old)).0 }
+        ensures wires { Extended wires.old wires.new }
+        ensures services { Extended services.old services.new }
     {
         self.inner.read(latched, wires, services)
     }
@@ -75,6 +83,8 @@ impl<P: Partner> Board<P> {
     ) -> Result<(), Refusal>
         ensures answer { plain_answer result ≡ (perform (write_call latched word) (state P.Partner.meaning self.old.inner wires.old services.old)).1 }
         ensures state { state P.Partner.meaning self.new.inner wires.new services.new ≡ (perform (write_call latched word) (state P.Partner.meaning self.old.inner wires.old services.old)).0 }
+        ensures wires { Extended wires.old wires.new }
+        ensures services { Extended services.old services.new }
     {
         self.inner.write(latched, word, wires, services)
     }
@@ -87,6 +97,8 @@ impl<P: Partner> Board<P> {
     ) -> Result<u8, Refusal>
         ensures answer { byte_answer result ≡ (perform pulse (state P.Partner.meaning self.old.inner wires.old services.old)).1 }
         ensures state { state P.Partner.meaning self.new.inner wires.new services.new ≡ (perform pulse (state P.Partner.meaning self.old.inner wires.old services.old)).0 }
+        ensures wires { Extended wires.old wires.new }
+        ensures services { Extended services.old services.new }
     {
         self.inner.acknowledge(wires, services)
     }
@@ -99,6 +111,8 @@ impl<P: Partner> Board<P> {
     ) -> Result<Half, Refusal>
         ensures answer { plain_answer result ≡ (perform first_pulse (state P.Partner.meaning self.old.inner wires.old services.old)).1 }
         ensures state { state P.Partner.meaning self.new.inner wires.new services.new ≡ (perform first_pulse (state P.Partner.meaning self.old.inner wires.old services.old)).0 }
+        ensures wires { Extended wires.old wires.new }
+        ensures services { Extended services.old services.new }
     {
         self.inner.begin_acknowledge(wires, services)
     }
@@ -112,6 +126,8 @@ impl<P: Partner> Board<P> {
     ) -> Result<u8, Refusal>
         ensures answer { byte_answer result ≡ (perform second_pulse (state P.Partner.meaning self.old.inner wires.old services.old)).1 }
         ensures state { state P.Partner.meaning self.new.inner wires.new services.new ≡ (perform second_pulse (state P.Partner.meaning self.old.inner wires.old services.old)).0 }
+        ensures wires { Extended wires.old wires.new }
+        ensures services { Extended services.old services.new }
     {
         self.inner.finish_acknowledge(half, wires, services)
     }
@@ -126,6 +142,8 @@ impl<P: Partner> Board<P> {
     ) -> Result<(), Refusal>
         ensures answer { plain_answer result ≡ (perform (pin code level) (state P.Partner.meaning self.old.inner wires.old services.old)).1 }
         ensures state { state P.Partner.meaning self.new.inner wires.new services.new ≡ (perform (pin code level) (state P.Partner.meaning self.old.inner wires.old services.old)).0 }
+        ensures wires { Extended wires.old wires.new }
+        ensures services { Extended services.old services.new }
     {
         self.inner.set_pin(code, level, wires, services)
     }
@@ -139,6 +157,8 @@ impl<P: Partner> Board<P> {
     ) -> Result<(), Refusal>
         ensures answer { plain_answer result ≡ (perform (span_call clocks) (state P.Partner.meaning self.old.inner wires.old services.old)).1 }
         ensures state { state P.Partner.meaning self.new.inner wires.new services.new ≡ (perform (span_call clocks) (state P.Partner.meaning self.old.inner wires.old services.old)).0 }
+        ensures wires { Extended wires.old wires.new }
+        ensures services { Extended services.old services.new }
     {
         self.inner.span(clocks, wires, services)
     }
@@ -151,6 +171,8 @@ impl<P: Partner> Board<P> {
     )
         ensures answer { done ≡ (perform reset_call (state P.Partner.meaning self.old.inner wires.old services.old)).1 }
         ensures state { state P.Partner.meaning self.new.inner wires.new services.new ≡ (perform reset_call (state P.Partner.meaning self.old.inner wires.old services.old)).0 }
+        ensures wires { Extended wires.old wires.new }
+        ensures services { Extended services.old services.new }
     {
         self.inner.reset(wires, services);
     }
@@ -159,13 +181,17 @@ impl<P: Partner> Board<P> {
     pub fn look(&mut self, registers: &[u8], place: &mut [u8]) -> Result<(), Refusal>
         ensures answer { looked result place.new ≡ answered (look_call registers.now place.old) (view P.Partner.meaning self.old.inner) }
         ensures same { self.new.inner ≡ self.old.inner }
+        ensures performed { (wires : Recording Wire) (services : Recording Service) → looked result place.new ≡ (perform (look_call registers.now place.old) (beside wires services (view P.Partner.meaning self.old.inner))).1 }
+        ensures state { (wires : Recording Wire) (services : Recording Service) → beside wires services (view P.Partner.meaning self.new.inner) ≡ (perform (look_call registers.now place.old) (beside wires services (view P.Partner.meaning self.old.inner))).0 }
     {
         self.inner.look(registers, place)
     }
 
     // The five counts together.
     pub fn snapshot(&self) -> [u8; 5]
-        ensures { counts result ≡ answered snapshot_call (view P.Partner.meaning self.now.inner) }
+        ensures answer { counts result ≡ answered snapshot_call (view P.Partner.meaning self.now.inner) }
+        ensures performed { (wires : Recording Wire) (services : Recording Service) → counts result ≡ (perform snapshot_call (beside wires services (view P.Partner.meaning self.now.inner))).1 }
+        ensures state { (wires : Recording Wire) (services : Recording Service) → beside wires services (view P.Partner.meaning self.now.inner) ≡ (perform snapshot_call (beside wires services (view P.Partner.meaning self.now.inner))).0 }
     {
         self.inner.unit.rest.timers.snapshot()
     }

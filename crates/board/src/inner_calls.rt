@@ -1,5 +1,6 @@
 // What each call does, where the bounds of the board are known to hold.
 ghost use Rattle.std.specs.Prelude.{◌≡◌};
+ghost use Rattle.recorder.specs.Recording.{Extended};
 ghost use Rattle.board.specs.Views.{view, Bounds};
 ghost use Rattle.board.specs.Perform.{read as read_call, write as write_call, pulse, first_pulse, second_pulse, pin, span as span_call, look as look_call, snapshot as snapshot_call, reset as reset_call, done, looked, counts, byte_answer, plain_answer, answered, perform, state};
 
@@ -28,6 +29,8 @@ impl<P: Partner> Inner<P> {
         requires { Bounds self.old }
         ensures answer { byte_answer result ≡ (perform (read_call latched) (state P.Partner.meaning self.old wires.old services.old)).1 }
         ensures state { state P.Partner.meaning self.new wires.new services.new ≡ (perform (read_call latched) (state P.Partner.meaning self.old wires.old services.old)).0 }
+        ensures wires { Extended wires.old wires.new }
+        ensures services { Extended services.old services.new }
         ensures bounds { Bounds self.new }
     {
         let family = Family::selected(self.unit.rest.registers.command1);
@@ -50,6 +53,8 @@ impl<P: Partner> Inner<P> {
         requires { Bounds self.old }
         ensures answer { plain_answer result ≡ (perform (write_call latched word) (state P.Partner.meaning self.old wires.old services.old)).1 }
         ensures state { state P.Partner.meaning self.new wires.new services.new ≡ (perform (write_call latched word) (state P.Partner.meaning self.old wires.old services.old)).0 }
+        ensures wires { Extended wires.old wires.new }
+        ensures services { Extended services.old services.new }
         ensures bounds { Bounds self.new }
     {
         let family = Family::selected(self.unit.rest.registers.command1);
@@ -69,6 +74,8 @@ impl<P: Partner> Inner<P> {
         requires { Bounds self.old }
         ensures answer { byte_answer result ≡ (perform pulse (state P.Partner.meaning self.old wires.old services.old)).1 }
         ensures state { state P.Partner.meaning self.new wires.new services.new ≡ (perform pulse (state P.Partner.meaning self.old wires.old services.old)).0 }
+        ensures wires { Extended wires.old wires.new }
+        ensures services { Extended services.old services.new }
         ensures bounds { Bounds self.new }
     {
         let before = self.lines();
@@ -87,6 +94,8 @@ impl<P: Partner> Inner<P> {
         requires { Bounds self.old }
         ensures answer { plain_answer result ≡ (perform first_pulse (state P.Partner.meaning self.old wires.old services.old)).1 }
         ensures state { state P.Partner.meaning self.new wires.new services.new ≡ (perform first_pulse (state P.Partner.meaning self.old wires.old services.old)).0 }
+        ensures wires { Extended wires.old wires.new }
+        ensures services { Extended services.old services.new }
         ensures bounds { Bounds self.new }
     {
         let before = self.lines();
@@ -106,6 +115,8 @@ impl<P: Partner> Inner<P> {
         requires { Bounds self.old }
         ensures answer { byte_answer result ≡ (perform second_pulse (state P.Partner.meaning self.old wires.old services.old)).1 }
         ensures state { state P.Partner.meaning self.new wires.new services.new ≡ (perform second_pulse (state P.Partner.meaning self.old wires.old services.old)).0 }
+        ensures wires { Extended wires.old wires.new }
+        ensures services { Extended services.old services.new }
         ensures bounds { Bounds self.new }
     {
         let before = self.lines();
@@ -124,6 +135,8 @@ impl<P: Partner> Inner<P> {
         requires { Bounds self.old }
         ensures answer { plain_answer result ≡ (perform (pin code level) (state P.Partner.meaning self.old wires.old services.old)).1 }
         ensures state { state P.Partner.meaning self.new wires.new services.new ≡ (perform (pin code level) (state P.Partner.meaning self.old wires.old services.old)).0 }
+        ensures wires { Extended wires.old wires.new }
+        ensures services { Extended services.old services.new }
         ensures bounds { Bounds self.new }
     {
         let before = self.lines();
@@ -142,6 +155,8 @@ impl<P: Partner> Inner<P> {
         requires { Bounds self.old }
         ensures answer { plain_answer result ≡ (perform (span_call clocks) (state P.Partner.meaning self.old wires.old services.old)).1 }
         ensures state { state P.Partner.meaning self.new wires.new services.new ≡ (perform (span_call clocks) (state P.Partner.meaning self.old wires.old services.old)).0 }
+        ensures wires { Extended wires.old wires.new }
+        ensures services { Extended services.old services.new }
         ensures bounds { Bounds self.new }
     {
         if clocks > LONGEST_SPAN {
@@ -162,6 +177,8 @@ impl<P: Partner> Inner<P> {
         requires { Bounds self.old }
         ensures answer { done ≡ (perform reset_call (state P.Partner.meaning self.old wires.old services.old)).1 }
         ensures state { state P.Partner.meaning self.new wires.new services.new ≡ (perform reset_call (state P.Partner.meaning self.old wires.old services.old)).0 }
+        ensures wires { Extended wires.old wires.new }
+        ensures services { Extended services.old services.new }
         ensures bounds { Bounds self.new }
     {
         let before = self.lines();

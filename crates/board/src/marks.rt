@@ -1,6 +1,6 @@
 // What the two recorders take: changes of lines, and what happens in service.
 ghost use Rattle.std.specs.Prelude.{◌≡◌, if◌then◌else◌};
-ghost use Rattle.recorder.specs.Recording.{recording, marked, all_marked};
+ghost use Rattle.recorder.specs.Recording.{Extended, all_marked, marked, recording};
 ghost use Rattle.board.specs.Marks.{change, changes, taken_marks, closed_marks};
 
 use recorder::Recorder;
@@ -43,7 +43,8 @@ fn mark_change(
     before: bool,
     level: bool,
 )
-    ensures { recording wires.new ≡ all_marked (change clock line before level) (recording wires.old) }
+    ensures view { recording wires.new ≡ all_marked (change clock line before level) (recording wires.old) }
+    ensures room { Extended wires.old wires.new }
 {
     if before != level {
         wires.mark(WireMark { clock, line, level });
@@ -52,7 +53,8 @@ fn mark_change(
 
 // Marks the lines that changed: TxD, RxD and INT, in that order.
 pub fn mark_changes(wires: &mut Recorder<'_, WireMark>, clock: u64, before: Lines, after: Lines)
-    ensures { recording wires.new ≡ all_marked (changes clock before after) (recording wires.old) }
+    ensures view { recording wires.new ≡ all_marked (changes clock before after) (recording wires.old) }
+    ensures room { Extended wires.old wires.new }
 {
     mark_change(wires, clock, Line::TxD, before.txd, after.txd);
     mark_change(wires, clock, Line::RxD, before.rxd, after.rxd);
@@ -66,7 +68,8 @@ pub fn mark_taken(
     nesting: bool,
     taken: Option<u8>,
 )
-    ensures { recording services.new ≡ all_marked (taken_marks clock nesting taken) (recording services.old) }
+    ensures view { recording services.new ≡ all_marked (taken_marks clock nesting taken) (recording services.old) }
+    ensures room { Extended services.old services.new }
 {
     let Some(level) = taken else {
         return;
@@ -79,7 +82,8 @@ pub fn mark_taken(
 }
 
 fn mark_closed_level(services: &mut Recorder<'_, ServiceMark>, clock: u64, level: u8, closed: bool)
-    ensures { recording services.new ≡ (if closed then marked (ServiceMark.Closed clock level) (recording services.old) else recording services.old) }
+    ensures view { recording services.new ≡ (if closed then marked (ServiceMark.Closed clock level) (recording services.old) else recording services.old) }
+    ensures room { Extended services.old services.new }
 {
     if closed {
         services.mark(ServiceMark::Closed { clock, level });
@@ -88,7 +92,8 @@ fn mark_closed_level(services: &mut Recorder<'_, ServiceMark>, clock: u64, level
 
 // The levels that were closed, lowest first.
 pub fn mark_closed(services: &mut Recorder<'_, ServiceMark>, clock: u64, closed: &[bool; 8])
-    ensures { recording services.new ≡ all_marked (closed_marks clock closed.now) (recording services.old) }
+    ensures view { recording services.new ≡ all_marked (closed_marks clock closed.now) (recording services.old) }
+    ensures room { Extended services.old services.new }
 {
     for level in 0..8u8 {
         mark_closed_level(services, clock, level, closed[level as usize]);

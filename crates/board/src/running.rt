@@ -2,7 +2,7 @@
 ghost use Rattle.std.specs.Prelude.{◌≡◌, ℕ, ◌+◌, ◌<◌, ◌≤◌, []};
 ghost use Rattle.timing.specs.Run.{times};
 ghost use Rattle.line.specs.Meaning.{shown, elapsed};
-ghost use Rattle.recorder.specs.Recording.{recording, all_marked};
+ghost use Rattle.recorder.specs.Recording.{Extended, all_marked, recording};
 ghost use Rattle.muart.specs.Clock.{Still};
 ghost use Rattle.board.specs.Marks.{changes};
 ghost use Rattle.board.specs.Views.{view, lines_of, told_to, settled, clock_once, marks_between, span_marks, last_clock, Bounds};
@@ -52,6 +52,7 @@ impl<P: Partner> Inner<P> {
         requires { Bounds self.old }
         ensures view { view P.Partner.meaning self.new ≡ settled before.txd (view P.Partner.meaning self.old) }
         ensures wires { recording wires.new ≡ all_marked (changes self.new.clock before (lines_of self.new.unit)) (recording wires.old) }
+        ensures room { Extended wires.old wires.new }
         ensures bounds { Bounds self.new }
     {
         self.join(before.txd);
@@ -63,6 +64,7 @@ impl<P: Partner> Inner<P> {
         requires fits { self.old.clock < last_clock }
         ensures view { view P.Partner.meaning self.new ≡ clock_once (view P.Partner.meaning self.old) }
         ensures wires { recording wires.new ≡ all_marked (marks_between (view P.Partner.meaning self.old) (view P.Partner.meaning self.new)) (recording wires.old) }
+        ensures room { Extended wires.old wires.new }
         ensures counted { self.new.clock ≡ self.old.clock + 1 }
         ensures bounds { Bounds self.new }
     {
@@ -112,6 +114,7 @@ impl<P: Partner> Inner<P> {
         requires fits { self.old.clock + clocks ≤ last_clock }
         ensures view { view P.Partner.meaning self.new ≡ times clocks clock_once (view P.Partner.meaning self.old) }
         ensures wires { recording wires.new ≡ all_marked (span_marks clocks (view P.Partner.meaning self.old)) (recording wires.old) }
+        ensures room { Extended wires.old wires.new }
         ensures bounds { Bounds self.new }
     {
         let mut left = clocks;

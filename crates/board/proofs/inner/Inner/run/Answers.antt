@@ -1,4 +1,5 @@
 use Rattle.std.proofs.Common.{◌<◌, arith}
+use Rattle.recorder.proofs.Extending.{extended_on}
 use Rattle.board.proofs.Clocks.{turn, marks_turn}
 use Rattle.board.proofs.inner.Inner.run.Goals as goal
 
@@ -23,4 +24,5 @@ loop-left-preserved g c =
       c.once.ensures.bounds,
       omega arith,
       omega arith,
+      extended_on _ _ _ c.loop-left.invariant.5 c.once.ensures.room,
     )

@@ -1,6 +1,6 @@
 use Rattle.std.proofs.Common.{◌≡◌, ◌+◌, ◌≤◌}
 use Rattle.timing.specs.Run.{times}
-use Rattle.recorder.specs.Recording.{recording, all_marked}
+use Rattle.recorder.specs.Recording.{Extended, recording, all_marked}
 use Rattle.board.specs.Views.{view, Bounds, clock_once, span_marks, last_clock}
 use Rattle.board.proofs.inner.Inner.run.Given as goal
 
@@ -11,6 +11,7 @@ invariant-loop-left g l =
     × Bounds l.self
     × (l.left ≤ 16777216)
     × (l.self.clock + l.left ≤ last_clock)
+    × Extended l.initial.wires l.wires
 
 abbrev pub decreases-loop-left : goal.decreases-loop-left
 decreases-loop-left g l = l.left
