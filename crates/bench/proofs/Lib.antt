@@ -1,2 +1,3 @@
 mod Printed
 mod ScriptHistory
+mod Shortened

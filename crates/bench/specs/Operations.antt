@@ -51,6 +51,12 @@ last_listed [] s = Ok 0
 last_listed (c ∷ []) s = listed (answered c s.board)
 last_listed (c ∷ d ∷ cs) s = last_listed (d ∷ cs) (after c s)
 
+-- of several answers the last one is listed
+abbrev pub last_answer : List Answer → Result ℕ Refusal
+last_answer [] = Ok 0
+last_answer (a ∷ []) = listed a
+last_answer (a ∷ b ∷ more) = last_answer (b ∷ more)
+
 -- the listing line of an operation, with the clock number after it
 abbrev pub line_of : ℕ → Result ℕ Refusal → ℕ → Line
 line_of number (Ok b) clock = record { number = number; verdict = Accepted; answer = b; last = clock }

@@ -1,11 +1,11 @@
 -- Script lines run one after the other.
-use Rattle.std.specs.Prelude.{◌≡◌, ℕ, suc, cond, List, [], ◌∷◌, ◌++◌, Some, None, Ok, Err, Option, Result, nat_lt}
+use Rattle.std.specs.Prelude.{◌≡◌, ℕ, suc, cond, List, [], ◌∷◌, ◌++◌, take, Some, None, Ok, Err, Option, Result, nat_lt}
 use Rattle.script.specs.declared.items.Fault.{Fault}
-use Rattle.script.specs.Lines.{Content, step, note, parsed}
+use Rattle.script.specs.Lines.{Content, step, note, parsed, kept_bytes}
 use Rattle.listing.specs.Layout.{layout}
-use Rattle.board.specs.Perform.{Call, State}
-use Rattle.board.specs.Histories.{ran}
-use Rattle.bench.specs.Operations.{calls_of, last_listed, line_of, fault_line}
+use Rattle.board.specs.Perform.{Call, Answer, State}
+use Rattle.board.specs.Histories.{ran, answers}
+use Rattle.bench.specs.Operations.{calls_of, last_listed, last_answer, line_of, fault_line}
 
 -- the calls that a script line makes: those of its operation; a note, or a line that cannot stand, makes none
 abbrev pub item_calls : Result Content Fault → State → List Call
@@ -30,6 +30,14 @@ line_calls number line s = cond (nat_lt last_line number) [] (item_calls (parsed
 abbrev pub line_prints : ℕ → List ℕ → State → Option (List ℕ)
 line_prints number line s = cond (nat_lt last_line number) None (item_prints number (parsed line) s)
 
+-- a line runs and prints as the bytes kept of it do
+pub record RunsAlike (number : ℕ) (line kept : List ℕ) (s : State) : Type 0 where
+  pub calls : line_calls number kept s ≡ line_calls number line s
+  pub prints : line_prints number kept s ≡ line_prints number line s
+
+abbrev pub StartRuns : Type 0
+StartRuns = (number : ℕ) (line : List ℕ) (s : State) → RunsAlike number line (take kept_bytes line) s
+
 -- where the lines of a script, numbered from n on, leave a board
 abbrev pub script_leaves : ℕ → List (List ℕ) → State → State
 script_leaves n [] s = s
@@ -43,3 +51,13 @@ script_calls n (line ∷ lines) s = line_calls n line s ++ script_calls (suc n) 
 -- a board after a script is the board after the history of the script's calls
 abbrev pub ScriptIsAHistory : Type 0
 ScriptIsAHistory = (n : ℕ) (lines : List (List ℕ)) (s : State) → script_leaves n lines s ≡ ran (script_calls n lines s) s
+
+-- what a script's lines answer, line by line
+abbrev pub script_answers : ℕ → List (List ℕ) → State → List Answer
+script_answers n [] s = []
+script_answers n (line ∷ lines) s = answers (line_calls n line s) s ++ script_answers (suc n) lines (ran (line_calls n line s) s)
+
+-- the history of a script's calls answers what the lines answer, and an operation lists the last answer of its calls
+pub record ScriptAnswers : Type 0 where
+  pub answered : (n : ℕ) (lines : List (List ℕ)) (s : State) → script_answers n lines s ≡ answers (script_calls n lines s) s
+  pub listed : (cs : List Call) (s : State) → last_listed cs s ≡ last_answer (answers cs s)

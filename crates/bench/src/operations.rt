@@ -1,5 +1,6 @@
 // Running one operation.
 ghost use Rattle.std.specs.Prelude.{◌≡◌, [], ◌∷◌};
+ghost use Rattle.recorder.specs.Recording.{Extended};
 ghost use Rattle.line.specs.LastHeard.{plug};
 ghost use Rattle.board.specs.Views.{view};
 ghost use Rattle.board.specs.Perform.{look, answered, state};
@@ -20,6 +21,8 @@ fn both_pulses(
 ) -> Result<u8, Refusal>
     ensures answer { result ≡ last_listed (calls_of Operation.AcknowledgeBoth (state plug board.old.inner wires.old services.old)) (state plug board.old.inner wires.old services.old) }
     ensures state { state plug board.new.inner wires.new services.new ≡ ran (calls_of Operation.AcknowledgeBoth (state plug board.old.inner wires.old services.old)) (state plug board.old.inner wires.old services.old) }
+    ensures wires { Extended wires.old wires.new }
+    ensures services { Extended services.old services.new }
 {
     let half = board.begin_acknowledge(wires, services)?;
     board.finish_acknowledge(half, wires, services)
@@ -44,6 +47,8 @@ pub fn operate(
 ) -> Result<u8, Refusal>
     ensures answer { result ≡ last_listed (calls_of operation (state plug board.old.inner wires.old services.old)) (state plug board.old.inner wires.old services.old) }
     ensures state { state plug board.new.inner wires.new services.new ≡ ran (calls_of operation (state plug board.old.inner wires.old services.old)) (state plug board.old.inner wires.old services.old) }
+    ensures wires { Extended wires.old wires.new }
+    ensures services { Extended services.old services.new }
 {
     match operation {
         Operation::Read { address } => board.read(Latched::new(address, true), wires, services),

@@ -1,5 +1,6 @@
 // Running a script line by line.
 ghost use Rattle.std.specs.Prelude.{◌≡◌, ◌^◌, ◌<◌, ◌≤◌, Ok};
+ghost use Rattle.recorder.specs.Recording.{Extended};
 ghost use Rattle.line.specs.LastHeard.{plug};
 ghost use Rattle.script.specs.Lines.{item_content};
 ghost use Rattle.board.specs.Perform.{state};
@@ -8,7 +9,7 @@ ghost use Rattle.board.specs.Cuts.{CutDoesNotShow};
 ghost use Rattle.board.specs.ServiceStack.{ServiceIsAStack};
 ghost use Rattle.board.specs.Draining.{RequestsDrain};
 ghost use Rattle.bench.specs.Operations.{line_of, fault_line};
-ghost use Rattle.bench.specs.Scripts.{item_calls, item_prints, line_calls, line_prints, ScriptIsAHistory};
+ghost use Rattle.bench.specs.Scripts.{item_calls, item_prints, line_calls, line_prints, StartRuns, ScriptIsAHistory, ScriptAnswers};
 
 use crate::operations::operate;
 use board::{Board, ServiceMark, WireMark};
@@ -64,6 +65,8 @@ fn run_item(
     requires { number ≤ 99999 }
     ensures prints { result ≡ item_prints number (Ok (item_content item.entry)) (state plug board.old.inner wires.old services.old) }
     ensures state { state plug board.new.inner wires.new services.new ≡ ran (item_calls (Ok (item_content item.entry)) (state plug board.old.inner wires.old services.old)) (state plug board.old.inner wires.old services.old) }
+    ensures wires { Extended wires.old wires.new }
+    ensures services { Extended services.old services.new }
 {
     match item {
         Item::Note(_) => None,
@@ -74,7 +77,8 @@ fn run_item(
     }
 }
 
-// Runs one line of a script, counted from 1, and gives what is listed of it. A line past the last is not run.
+// Runs one line of a script, counted from 1, and gives what is listed of it. A line past the last is not run. Of a long
+// line its first 81 bytes are enough.
 // The lines of a script make a history of the board, so all that holds over histories holds of it.
 pub fn run_line(
     board: &mut Board<Loopback>,
@@ -85,7 +89,11 @@ pub fn run_line(
 ) -> Option<[u8; 29]>
     ensures prints { result ≡ line_prints number line.now (state plug board.old.inner wires.old services.old) }
     ensures state { state plug board.new.inner wires.new services.new ≡ ran (line_calls number line.now (state plug board.old.inner wires.old services.old)) (state plug board.old.inner wires.old services.old) }
+    ensures wires { Extended wires.old wires.new }
+    ensures services { Extended services.old services.new }
+    ensures start { StartRuns }
     ensures script { ScriptIsAHistory }
+    ensures answers { ScriptAnswers }
     ensures cuts { CutDoesNotShow }
     ensures service { ServiceIsAStack }
     ensures draining { RequestsDrain }
@@ -102,6 +110,8 @@ fn run_numbered(
 ) -> Option<[u8; 29]>
     ensures prints { result ≡ line_prints number line.now (state plug board.old.inner wires.old services.old) }
     ensures state { state plug board.new.inner wires.new services.new ≡ ran (line_calls number line.now (state plug board.old.inner wires.old services.old)) (state plug board.old.inner wires.old services.old) }
+    ensures wires { Extended wires.old wires.new }
+    ensures services { Extended services.old services.new }
 {
     if number > LAST_LINE {
         return None;

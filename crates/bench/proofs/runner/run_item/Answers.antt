@@ -17,4 +17,6 @@ returns-in-Step c =
           step_prints c.args.number c.in-Step.operation s _ _ _ _ _ c.operate-answer.ensures.answer c.operate-answer.ensures.state c.clock.ensures.value c.line_of.ensures c.write_line.ensures.columns
           ∙ ap (λ p. item_prints c.args.number p s) is;
       state = c.operate-answer.ensures.state ∙ ap (λ p. ran (item_calls p s) s) is;
+      wires = c.operate-answer.ensures.wires;
+      services = c.operate-answer.ensures.services;
     }

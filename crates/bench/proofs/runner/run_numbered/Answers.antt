@@ -2,6 +2,7 @@ use Rattle.std.proofs.Common.{◌≡◌, Some, ap, ◌∙◌}
 use Rattle.listing.specs.Layout.{layout}
 use Rattle.line.specs.LastHeard.{plug}
 use Rattle.board.specs.Perform.{state}
+use Rattle.recorder.proofs.Extending.{extended_none}
 use Rattle.bench.proofs.Printed.{prints, leaves}
 use Rattle.bench.proofs.runner.run_numbered.Goals as goal
 
@@ -12,6 +13,8 @@ returns-in-Ok c =
     record {
       prints = c.run_item.ensures.prints ∙ prints c.args.number c.args.line.now s c.if-number-gt-LAST_LINE.false _ said;
       state = c.run_item.ensures.state ∙ leaves c.args.number c.args.line.now s c.if-number-gt-LAST_LINE.false _ said;
+      wires = c.run_item.ensures.wires;
+      services = c.run_item.ensures.services;
     }
 
 pub returns-in-Err : goal.returns-in-Err
@@ -23,4 +26,6 @@ returns-in-Err c =
           ap Some (c.write_line.ensures.columns ∙ ap layout c.fault_line.ensures.value)
           ∙ prints c.args.number c.args.line.now s c.if-number-gt-LAST_LINE.false _ said;
       state = leaves c.args.number c.args.line.now s c.if-number-gt-LAST_LINE.false _ said;
+      wires = extended_none c.args.wires.now;
+      services = extended_none c.args.services.now;
     }
