@@ -4,6 +4,7 @@ use crate::reading::read_line;
 use bench::run_line;
 use board::{Board, Line, ServiceMark, WireMark};
 use line::Loopback;
+use mark_lines::{ServiceText, WireText};
 use recorder::Recorder;
 use std::io;
 use std::io::{BufReader, BufWriter, Write};
@@ -11,20 +12,10 @@ use std::io::{BufReader, BufWriter, Write};
 // Room for so many marks of either kind.
 const ROOM: usize = 1_000_000;
 
-fn line_name(line: Line) -> &'static str {
-    match line {
-        Line::TxD => "TxD",
-        Line::RxD => "RxD",
-        Line::Int => "INT",
-    }
-}
-
 fn print_wires<W: Write + Drop>(output: &mut BufWriter<W>, marks: &[WireMark]) -> io::Result<()> {
     for mark in marks {
-        let clock = mark.clock;
-        let line = line_name(mark.line);
-        let level = u8::from(mark.level);
-        writeln!(output, "W {clock} {line} {level}")?;
+        let text = WireText(*mark);
+        writeln!(output, "{text}")?;
     }
     Ok(())
 }
@@ -34,12 +25,8 @@ fn print_services<W: Write + Drop>(
     marks: &[ServiceMark],
 ) -> io::Result<()> {
     for mark in marks {
-        let (clock, level, kind) = match *mark {
-            ServiceMark::Taken { clock, level } => (clock, level, "taken"),
-            ServiceMark::Passed { clock, level } => (clock, level, "passed"),
-            ServiceMark::Closed { clock, level } => (clock, level, "closed"),
-        };
-        writeln!(output, "S {clock} {level} {kind}")?;
+        let text = ServiceText(*mark);
+        writeln!(output, "{text}")?;
     }
     Ok(())
 }
