@@ -1,8 +1,8 @@
 -- A script's calls are a history.
-use Rattle.std.proofs.Common.{◌≡◌, ℕ, suc, List, [], ◌∷◌, ◌++◌, sym, refl, ◌∙◌}
+use Rattle.std.proofs.Common.{◌≡◌, suc, List, [], ◌∷◌, ◌++◌, sym, refl, ◌∙◌}
 use Rattle.board.specs.Perform.{Call, State, after}
 use Rattle.board.specs.Histories.{ran}
-use Rattle.bench.specs.Scripts.{line_calls, script_leaves, script_calls, ScriptIsAHistory}
+use Rattle.bench.specs.Scripts.{line_calls, script_calls, ScriptIsAHistory}
 
 ran_append : (cs ds : List Call) (s : State) → ran (cs ++ ds) s ≡ ran ds (ran cs s)
 ran_append [] ds s = refl
