@@ -1,15 +1,15 @@
 -- What a line that is run prints and leaves.
-use Rattle.std.proofs.Common.{◌≡◌, ℕ, ◌≤◌, Bool, false, cond, ltb, List, [], Some, None, Ok, Err, Result, sym, refl, ap, ◌∙◌}
+use Rattle.std.proofs.Common.{◌≡◌, ℕ, ◌≤◌, cond, ltb, List, [], Some, None, Ok, Result, sym, ap, ◌∙◌}
 use Rattle.std.proofs.lemmas.Bool.{le-ltb}
 use Rattle.script.specs.declared.items.Operation.{Operation}
 use Rattle.script.specs.declared.items.Fault.{Fault}
-use Rattle.script.specs.Lines.{Content, step, note, parsed}
+use Rattle.script.specs.Lines.{Content, step, parsed}
 use Rattle.listing.specs.declared.lines.Line.{Line}
 use Rattle.listing.specs.Layout.{layout}
 use Rattle.registers.specs.declared.refusal.Refusal.{Refusal}
 use Rattle.board.specs.Perform.{State}
 use Rattle.board.specs.Histories.{ran}
-use Rattle.bench.specs.Operations.{calls_of, last_listed, line_of, fault_line}
+use Rattle.bench.specs.Operations.{calls_of, last_listed, line_of}
 use Rattle.bench.specs.Scripts.{item_calls, item_prints, last_line, line_calls, line_prints}
 
 module _ (number : ℕ) (line : List ℕ) (s : State) (h : number ≤ last_line) (said : Result Content Fault) (e : said ≡ parsed line) where

@@ -1,17 +1,13 @@
 -- What the operations of a script do to a board, and what is listed of them.
-use Rattle.std.specs.Prelude.{ℕ, true, List, [], ◌∷◌, Some, None, Ok, Err, Option, Result, slice_index}
+use Rattle.std.specs.Prelude.{ℕ, true, List, [], ◌∷◌, Ok, Err, Result, slice_index}
 use Rattle.script.specs.declared.items.Operation.{Operation}
 use Rattle.script.specs.declared.items.Operation.TheVariants.{Read, Write, Clocks, Pin, Acknowledge, AcknowledgeBoth, Reset, Look}
-use Rattle.script.specs.declared.items.Fault.{Fault}
-use Rattle.script.specs.Lines.{Content, step, note, parsed}
 use Rattle.listing.specs.declared.lines.Line.{Line}
 use Rattle.listing.specs.declared.lines.Verdict.TheVariants.{Accepted, Refused}
-use Rattle.listing.specs.Layout.{layout}
 use Rattle.registers.specs.declared.refusal.Refusal.{Refusal}
 use Rattle.registers.specs.declared.latch.Latched.{Latched}
 use Rattle.registers.specs.Refusals.{number_of}
 use Rattle.board.specs.Perform.{Call, read, write, pulse, first_pulse, second_pulse, pin, span, look, reset, Answer, done, byte, counts, refused, looked, answered, State, after}
-use Rattle.board.specs.Histories.{ran}
 
 -- the bench selects the chip in every bus cycle
 abbrev pub at_address : ℕ → Latched

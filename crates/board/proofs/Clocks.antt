@@ -1,7 +1,7 @@
 -- Many clocks of a board.
-use Rattle.std.proofs.Common.{◌≡◌, ℕ, zero, suc, ◌+◌, ◌-◌, ◌<◌, ◌≤◌, Bool, true, false, cond, not, ◌&&◌, List, [], ◌∷◌, ◌++◌, sym, refl, ap, ◌∙◌, subst, append_assoc, suc-le-suc, zero-le, le_refl, not-suc-le-zero, add-zero, add-suc, suc-add, zero-add, arith}
+use Rattle.std.proofs.Common.{◌≡◌, ℕ, zero, suc, ◌+◌, ◌-◌, ◌<◌, ◌≤◌, Bool, true, false, cond, not, ◌&&◌, [], ◌++◌, sym, refl, ap, ◌∙◌, append_assoc, suc-le-suc, zero-le, not-suc-le-zero, add-zero, add-suc, suc-add, zero-add, arith}
 use Rattle.timing.specs.Run.{times, when}
-use Rattle.timing.proofs.Repeats.{times_add, times_suc}
+use Rattle.timing.proofs.Repeats.{times_add}
 use Rattle.line.specs.Meaning.{Meaning, shown, ticked, hearing, elapsed}
 use Rattle.recorder.specs.Recording.{Recording, all_marked}
 use Rattle.recorder.proofs.Marks.{all_marked_append}
@@ -15,7 +15,7 @@ use Rattle.muart.proofs.Jumping.{still_txd, still_int, still_rxd}
 use Rattle.board.specs.declared.marks.WireMark.{WireMark}
 use Rattle.board.specs.declared.marks.Lines.{Lines}
 use Rattle.board.specs.Marks.{differ, changes}
-use Rattle.board.specs.Views.{View, lines_of, with_unit, told_to, joined, settled, stirred, clock_once, marks_between, span_marks}
+use Rattle.board.specs.Views.{View, lines_of, with_unit, joined, settled, stirred, clock_once, marks_between, span_marks}
 
 pub same_differ : (a b : Bool) → a ≡ b → differ a b ≡ false
 same_differ true true e = refl

@@ -1,5 +1,5 @@
 -- Marking closed levels one by one.
-use Rattle.std.proofs.Common.{◌≡◌, ℕ, zero, suc, ◌+◌, ◌<◌, ◌≤◌, Bool, true, false, cond, List, [], ◌∷◌, length, get_or, drop, sym, refl, ap, ◌∙◌, le_of_suc-le-suc, not-suc-le-zero, add-zero, add-suc, suc-add, add-one}
+use Rattle.std.proofs.Common.{◌≡◌, ℕ, zero, suc, ◌+◌, ◌<◌, ◌≤◌, Bool, true, false, cond, List, [], ◌∷◌, length, get_or, drop, sym, refl, ap, ◌∙◌, le_of_suc-le-suc, not-suc-le-zero, add-one}
 use Rattle.recorder.specs.Recording.{Recording, all_marked, marked}
 use Rattle.board.specs.declared.marks.ServiceMark.{ServiceMark}
 use Rattle.board.specs.declared.marks.ServiceMark.TheVariants.{Closed}

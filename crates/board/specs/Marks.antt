@@ -1,5 +1,5 @@
 -- The marks that changes of lines and service make.
-use Rattle.std.specs.Prelude.{ℕ, zero, suc, Bool, true, false, cond, not, List, [], ◌∷◌, ◌++◌, Some, None, Option}
+use Rattle.std.specs.Prelude.{ℕ, suc, Bool, true, false, cond, not, List, [], ◌∷◌, ◌++◌, Some, None, Option}
 use Rattle.board.specs.declared.marks.Line.{Line}
 use Rattle.board.specs.declared.marks.Line.TheVariants.{TxD, RxD, Int}
 use Rattle.board.specs.declared.marks.WireMark.{WireMark}

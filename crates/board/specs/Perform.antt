@@ -1,5 +1,5 @@
 -- One rule for every call of a board: what it answers, what it leaves, and the marks that it makes.
-use Rattle.std.specs.Prelude.{ℕ, ◌+◌, ◌*◌, Bool, cond, List, [], ◌∷◌, length, Some, None, Ok, Err, Option, Result, nat_lt}
+use Rattle.std.specs.Prelude.{ℕ, ◌+◌, ◌*◌, Bool, cond, List, [], length, Some, None, Ok, Err, Option, Result, nat_lt}
 use Rattle.timing.specs.Run.{times}
 use Rattle.timers.specs.Access.{counts_of}
 use Rattle.line.specs.Meaning.{Meaning, shown}

@@ -1,5 +1,5 @@
 -- A board as the rules see it, and one clock of it.
-use Rattle.std.specs.Prelude.{ℕ, zero, suc, ◌≤◌, Bool, cond, List, [], ◌∷◌, ◌++◌}
+use Rattle.std.specs.Prelude.{ℕ, zero, suc, ◌≤◌, Bool, cond, List, [], ◌++◌}
 use Rattle.line.specs.Meaning.{Meaning, shown, ticked, hearing}
 use Rattle.muart.specs.declared.state.StandIn.{StandIn}
 use Rattle.muart.specs.Bounds.{Sound}

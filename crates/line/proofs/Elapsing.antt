@@ -1,4 +1,4 @@
-use Rattle.std.proofs.Common.{◌≡◌, ℕ, zero, suc, ◌+◌, ◌-◌, ◌<◌, ◌≤◌, Bool, sym, refl, ap, ◌∙◌, suc-add, zero-add, arith}
+use Rattle.std.proofs.Common.{◌≡◌, ℕ, zero, suc, ◌+◌, ◌-◌, ◌<◌, Bool, sym, refl, ap, ◌∙◌, suc-add, zero-add, arith}
 use Rattle.line.specs.Meaning.{Meaning, Steady, shown, ticked, elapsed}
 use Rattle.line.specs.LastHeard.{last_heard}
 

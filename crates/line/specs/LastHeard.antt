@@ -1,5 +1,5 @@
-use Rattle.std.specs.Prelude.{Bool, List, [], ◌∷◌}
-use Rattle.line.specs.Meaning.{Sign, clock, heard, Meaning}
+use Rattle.std.specs.Prelude.{Bool, [], ◌∷◌}
+use Rattle.line.specs.Meaning.{clock, heard, Meaning}
 use Rattle.line.specs.declared.loopback.Loopback.{Loopback}
 
 -- The level last heard, or b where none was.

@@ -1,6 +1,6 @@
 use Rattle.std.specs.Prelude.{ℕ, ◌+◌, ◌-◌, min, max, Bool, cond, not, List, [], ◌∷◌, drop, Some, None, vec_items, Option, nat_le}
 use Rattle.std.specs.Option.{unwrap_or}
-use Rattle.line.specs.Meaning.{Sign, clock, heard, Meaning}
+use Rattle.line.specs.Meaning.{clock, heard, Meaning}
 use Rattle.line.specs.declared.recorded.Recorded.{Recorded}
 
 -- A level that turns over after each wait in turn, of which 0 counts as 1, whatever is heard.

@@ -1,14 +1,12 @@
 -- What moves in a clock that records nothing: dividers, counts, and ticks within a bit.
-use Rattle.std.proofs.Common.{◌≡◌, ℕ, zero, suc, ◌<◌, ◌≤◌, Bool, true, false, cond, Some, None, Option, sym, refl, ap, ◌∙◌}
+use Rattle.std.proofs.Common.{◌≡◌, ℕ, zero, suc, Bool, true, false, None, sym, refl, ap, ◌∙◌}
 use Rattle.timing.specs.Run.{times, when}
 use Rattle.timing.specs.Accumulator.{wraps, next, turns}
 use Rattle.timing.proofs.Driven.{Drives, splits}
 use Rattle.timing.proofs.Bare.{both_times, when_put, when_same, when_alike}
-use Rattle.timers.specs.declared.timers.Timers.{Timers}
 use Rattle.timers.specs.Stepping.{stepped, firing, Quiet}
 use Rattle.serial.specs.declared.transmitter.Transmitter.{Transmitter}
 use Rattle.serial.specs.declared.receiver.Receiver.{Receiver}
-use Rattle.serial.specs.declared.receiver.Reception.{Reception}
 use Rattle.serial.specs.Sending.{ending, ticked}
 use Rattle.serial.specs.Receiving.{passed, told}
 use Rattle.muart.specs.declared.state.StandIn.{StandIn}

@@ -1,7 +1,7 @@
 -- Many clocks at once.
-use Rattle.std.proofs.Common.{◌≡◌, ℕ, zero, suc, ◌+◌, ◌*◌, ◌<◌, ◌≤◌, min, Bool, true, false, Some, None, Option, sym, refl, ap, ◌∙◌, subst, zero-mul, arith}
+use Rattle.std.proofs.Common.{◌≡◌, ℕ, ◌<◌, ◌≤◌, min, Bool, false, Some, None, Option, sym, refl, ap, ◌∙◌, subst, zero-mul, arith}
 use Rattle.timing.specs.declared.accumulator.Accumulator.{Accumulator}
-use Rattle.timing.specs.Run.{times, when}
+use Rattle.timing.specs.Run.{times}
 use Rattle.timing.specs.Accumulator.{wraps, next, turns, reached}
 use Rattle.timing.proofs.Driven.{Drives, splits}
 use Rattle.timing.proofs.Turns.{turns_below}
@@ -23,7 +23,7 @@ use Rattle.muart.specs.declared.state.StandIn.{StandIn}
 use Rattle.muart.specs.Firing.{modes_of, watched}
 use Rattle.muart.specs.Reading.{int_high}
 use Rattle.muart.specs.Serial.{form_in, rate_in, txd_level, reception_kept, serial_tick}
-use Rattle.muart.specs.State.{with_rest, with_timers, with_dividers, with_steps, with_prescaler, with_remainder}
+use Rattle.muart.specs.State.{with_timers, with_dividers, with_steps, with_prescaler, with_remainder}
 use Rattle.muart.specs.Clock.{timer_step, divide_in, timed, rate_modulus, rated, internal_clock, prescale_in, clocked, internals_in, steps_in, ticks_in, quiet_steps, quiet_rate_ticks, quiet_at_rate, quiet_internals, quiet_clocks, QuietSteps, Still}
 use Rattle.muart.proofs.BareMotion.{with_both, bare, landing, lands, internal_quiet}
 

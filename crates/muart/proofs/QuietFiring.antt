@@ -1,5 +1,5 @@
 -- Timers whose firing changes nothing.
-use Rattle.std.proofs.Common.{◌≡◌, ℕ, Bool, true, false, cond, not, ◌&&◌, ◌||◌, List, get_or, set, sym, refl, ap, ◌∙◌}
+use Rattle.std.proofs.Common.{◌≡◌, Bool, true, false, cond, not, ◌&&◌, ◌||◌, List, get_or, set, sym, refl, ap, ◌∙◌}
 use Rattle.levels.proofs.Recording.{not_fresh, not_enabled}
 use Rattle.timers.specs.declared.modes.Fired.{Fired}
 use Rattle.timers.specs.Stepping.{Quiet}

@@ -1,5 +1,5 @@
 -- One system clock of the stand-in.
-use Rattle.std.specs.Prelude.{ℕ, ◌<◌, ◌≤◌, min, Bool, cond, ◌==◌}
+use Rattle.std.specs.Prelude.{ℕ, ◌<◌, ◌≤◌, min, cond, ◌==◌}
 use Rattle.timing.specs.Run.{times, when}
 use Rattle.timing.specs.Accumulator.{wraps, next, turns, reached}
 use Rattle.timers.specs.declared.timers.Timers.{Timers}

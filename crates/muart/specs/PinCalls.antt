@@ -1,6 +1,5 @@
 -- Setting the outside level of a pin.
-use Rattle.std.specs.Prelude.{ℕ, Bool, true, false, cond, not, ◌&&◌, List, set, Some, None, Ok, Err, Option, Result, ◌==◌, slice_set}
-use Rattle.timing.specs.Run.{when}
+use Rattle.std.specs.Prelude.{ℕ, Bool, true, false, cond, Some, None, Ok, Err, Option, Result, ◌==◌, slice_set}
 use Rattle.timers.specs.Stepping.{counted_two, firing_two, counted_three, firing_three}
 use Rattle.timers.specs.Access.{triggered}
 use Rattle.registers.specs.declared.refusal.Refusal.{Refusal}

@@ -1,11 +1,9 @@
 -- Acknowledge pulses.
-use Rattle.std.specs.Prelude.{ℕ, ◌+◌, ◌*◌, Bool, true, false, cond, Some, None, Ok, Err, Option, Result}
+use Rattle.std.specs.Prelude.{ℕ, ◌+◌, ◌*◌, false, cond, Some, None, Ok, Err, Option, Result}
 use Rattle.registers.specs.declared.refusal.Refusal.{Refusal}
 use Rattle.registers.specs.declared.refusal.Refusal.TheVariants.{AcknowledgeDisabled, WrongFamily, InterruptLow, AlreadyBegun, NoneBegun}
 use Rattle.registers.specs.declared.words.Family.{Family}
-use Rattle.registers.specs.declared.words.Family.TheVariants.{I8085, I8086}
 use Rattle.muart.specs.declared.state.StandIn.{StandIn}
-use Rattle.muart.specs.declared.pulse.Half.{Half}
 use Rattle.muart.specs.declared.pulse.Begun.{Begun}
 use Rattle.muart.specs.declared.pulse.Acknowledged.{Acknowledged}
 use Rattle.registers.specs.Words.{family_of, same_family}

@@ -1,5 +1,5 @@
 -- The serial side within the stand-in.
-use Rattle.std.specs.Prelude.{ℕ, Bool, true, false, cond, not, ◌&&◌, ◌||◌, is_some, Some, None, Option}
+use Rattle.std.specs.Prelude.{ℕ, Bool, true, not, ◌&&◌, ◌||◌, is_some, Some, None, Option}
 use Rattle.timing.specs.Run.{when}
 use Rattle.serial.specs.declared.form.Form.{Form}
 use Rattle.serial.specs.declared.receiver.Reception.{Reception}

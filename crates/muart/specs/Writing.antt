@@ -1,8 +1,7 @@
 -- What writing a register does.
-use Rattle.std.specs.Prelude.{ℕ, Bool, true, false, cond, not, ◌&&◌, List, replicate, Some, None, Ok, Err, Result, ◌==◌}
+use Rattle.std.specs.Prelude.{ℕ, Bool, true, false, cond, not, ◌&&◌, List, replicate, None, Ok, Err, Result, ◌==◌}
 use Rattle.levels.specs.Sets.{union, minus, ended}
 use Rattle.levels.specs.Bytes.{flags}
-use Rattle.timing.specs.Run.{when}
 use Rattle.timers.specs.Access.{cleared_timers, written as timer_written, selected}
 use Rattle.registers.specs.declared.refusal.Refusal.{Refusal}
 use Rattle.registers.specs.declared.refusal.Refusal.TheVariants.{UnlawfulWord}

@@ -1,5 +1,5 @@
 -- A byte made bit by bit.
-use Rattle.std.proofs.Common.{◌≡◌, ℕ, suc, ◌+◌, ◌*◌, ◌^◌, ◌<◌, Bool, true, false, cond, sym, refl, ap, ◌∙◌, pow-suc, add-one, arith}
+use Rattle.std.proofs.Common.{◌≡◌, ℕ, ◌+◌, ◌*◌, ◌^◌, ◌<◌, Bool, true, false, cond, ap, ◌∙◌, pow-suc, add-one, arith}
 use Rattle.registers.specs.Ports.{byte_below}
 
 pub weight_fits : (on : Bool) (n : ℕ) → cond on (2 ^ n) 0 < 2 ^ n + 1

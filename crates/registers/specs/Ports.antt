@@ -1,5 +1,5 @@
 -- Directions and levels of the pins.
-use Rattle.std.specs.Prelude.{ℕ, zero, suc, ◌+◌, ◌-◌, ◌^◌, ◌<◌, Bool, true, false, cond, not, ◌&&◌, List, [], ◌∷◌, Some, None, Option, ◌==◌, nat_lt, slice_index_or}
+use Rattle.std.specs.Prelude.{ℕ, zero, suc, ◌+◌, ◌-◌, ◌^◌, ◌<◌, Bool, false, cond, not, ◌&&◌, Some, None, Option, ◌==◌, nat_lt, slice_index_or}
 use Rattle.registers.specs.declared.held.Registers.{Registers}
 use Rattle.registers.specs.declared.held.Pins.{Pins}
 use Rattle.registers.specs.declared.pins.Pin.{Pin}

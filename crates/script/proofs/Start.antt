@@ -1,11 +1,11 @@
 -- What a line says is decided by its first 81 bytes.
-use Rattle.std.proofs.Common.{◌≡◌, ℕ, zero, suc, ◌+◌, ◌-◌, ◌*◌, ◌<◌, ◌≤◌, Bool, true, false, cond, ◌&&◌, eqb, leb, List, [], ◌∷◌, length, take, drop, Some, None, Ok, codes, Option, Result, sym, refl, ap, ◌∙◌, le_of_suc-le-suc, not-suc-le-zero, arith, lit≤, length-take, take_all}
+use Rattle.std.proofs.Common.{◌≡◌, ℕ, zero, suc, ◌+◌, ◌-◌, ◌*◌, ◌<◌, ◌≤◌, Bool, true, false, cond, ◌&&◌, eqb, leb, List, [], ◌∷◌, length, take, drop, Some, None, Ok, codes, Option, sym, refl, ap, ◌∙◌, le_of_suc-le-suc, not-suc-le-zero, arith, lit≤, length-take, take_all}
 use Rattle.std.proofs.lemmas.List.{drop-take}
 use Rattle.std.proofs.lemmas.Bool.Decides.{nat_tests}
 use Rattle.std.specs.Char.{is_ascii_digit}
 use Rattle.script.specs.Codes.{starts, code_of, first_limit, second_limit, operation_of}
 use Rattle.script.specs.Fields.{at, is_padding, read_on, field_of, and_then, bounded_of}
-use Rattle.script.specs.Lines.{step, note, fielded, operated, noted, parsed, StartDecides}
+use Rattle.script.specs.Lines.{step, fielded, operated, noted, parsed, StartDecides}
 use Rattle.script.specs.declared.codes.Code.{Code}
 use Rattle.script.specs.declared.codes.Code.TheVariants.{Rd, Wr, Ck, Pn, Ak, Ab, Rs, Lk}
 

@@ -3,7 +3,7 @@ use Rattle.std.proofs.Common.{◌≡◌, ℕ, zero, suc, ◌+◌, ◌-◌, ◌*�
 use native.Mathlib.Nat.{div-eq_of_lt, div-eq-sub-div}
 use Rattle.std.proofs.lemmas.Bool.{lt-ltb, le-ltb, cases_lt}
 use Rattle.serial.specs.Forms.{SoundForm, has_parity, masked, parity_bit, stop_ticks, stops_ticks}
-use Rattle.serial.specs.Frames.{bit, bits_from, frame, frame_ticks, stop_levels}
+use Rattle.serial.specs.Frames.{bit, bits_from, frame_ticks, stop_levels}
 use Rattle.serial.specs.Laws.{Sends}
 use Rattle.timing.specs.Run.{times}
 use Rattle.serial.specs.Sending.{bit_long, lasting, level, offered, past_bit, past_data, stopping, ticked}

@@ -1,5 +1,5 @@
 -- A step that does nothing beside its motion, many times.
-use Rattle.std.proofs.Common.{◌≡◌, ℕ, zero, suc, ◌+◌, ◌-◌, ◌<◌, ◌≤◌, Bool, true, false, cond, sym, refl, ap, ◌∙◌, le_refl, add-zero, add-one, arith}
+use Rattle.std.proofs.Common.{◌≡◌, ℕ, zero, suc, ◌+◌, ◌-◌, ◌<◌, ◌≤◌, Bool, true, false, cond, sym, refl, ap, ◌∙◌, le_refl, arith}
 use Rattle.timing.specs.Run.{times, when}
 use Rattle.timing.specs.Accumulator.{wraps, next, turns}
 use Rattle.timing.proofs.Repeats.{times_suc}

@@ -1,5 +1,4 @@
-use Rattle.std.proofs.Common.{◌≡◌, Ok, sym, ap, ◌∙◌}
-use Rattle.script.specs.declared.items.Operation.{Operation}
+use Rattle.std.proofs.Common.{Ok, sym, ap, ◌∙◌}
 use Rattle.script.specs.Lines.{item_content}
 use Rattle.line.specs.LastHeard.{plug}
 use Rattle.board.specs.Perform.{state}

@@ -1,4 +1,4 @@
-use Rattle.std.proofs.Common.{◌≡◌, Some, ap, ◌∙◌}
+use Rattle.std.proofs.Common.{Some, ap, ◌∙◌}
 use Rattle.listing.specs.Layout.{layout}
 use Rattle.line.specs.LastHeard.{plug}
 use Rattle.board.specs.Perform.{state}

@@ -1,4 +1,4 @@
-use Rattle.std.proofs.Common.{◌≡◌, sym, ◌∙◌, arith, rules}
+use Rattle.std.proofs.Common.{arith, rules}
 use Rattle.board.proofs.Clocks.{none_still, none_same}
 use Rattle.board.proofs.inner.Inner.quiet.Goals as goal
 

@@ -1,4 +1,4 @@
-use Rattle.std.proofs.Common.{◌≡◌, ◌<◌, length, Some, None, vec_items, sym, arith, rules}
+use Rattle.std.proofs.Common.{◌≡◌, ◌<◌, length, None, vec_items, arith, rules}
 use Rattle.line.specs.Plays.{waiting}
 use Rattle.line.proofs.Playing.{none_left, some_left}
 use Rattle.line.proofs.recorded.Recorded.left.Goals as goal

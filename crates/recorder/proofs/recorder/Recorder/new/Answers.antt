@@ -1,4 +1,4 @@
-use Rattle.std.proofs.Common.{length, refl, rules}
+use Rattle.std.proofs.Common.{length, rules}
 use Rattle.recorder.proofs.Marks.{kept_take, counts_all}
 use Rattle.recorder.proofs.recorder.Recorder.new.Goals as goal
 

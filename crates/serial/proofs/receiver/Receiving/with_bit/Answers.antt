@@ -1,6 +1,5 @@
-use Rattle.std.proofs.Common.{◌≡◌, ℕ, ◌+◌, ◌^◌, ◌<◌, ap, arith}
+use Rattle.std.proofs.Common.{ℕ, ◌+◌, ap, arith}
 use Rattle.serial.specs.declared.receiver.Receiving.{Receiving}
-use Rattle.serial.specs.Receiving.{worth}
 use Rattle.serial.proofs.Gathered.{one_more}
 use Rattle.serial.proofs.receiver.Receiving.with_bit.Goals as goal
 
