@@ -2,7 +2,7 @@
 use Rattle.std.proofs.Common.{◌≡◌, ℕ, suc, List, [], ◌∷◌, ◌++◌, sym, refl, ap, ◌∙◌}
 use Rattle.board.specs.Perform.{Call, State, after, answered}
 use Rattle.board.specs.Histories.{ran, answers}
-use Rattle.bench.specs.Scripts.{line_calls, script_leaves, script_calls, script_answers, ScriptIsAHistory, ScriptAnswers}
+use Rattle.bench.specs.Scripts.{line_calls, script_calls, script_answers, ScriptIsAHistory, ScriptAnswers}
 use Rattle.bench.specs.Operations.{last_listed, last_answer}
 
 ran_append : (cs ds : List Call) (s : State) → ran (cs ++ ds) s ≡ ran ds (ran cs s)

@@ -5,7 +5,7 @@ use Rattle.timing.specs.Run.{times}
 use Rattle.registers.specs.declared.refusal.Refusal.{Refusal}
 use Rattle.registers.specs.declared.refusal.Refusal.TheVariants.{SpanTooLong, ClockPastEnd}
 use Rattle.board.specs.Views.{View, settled, clock_once, last_clock}
-use Rattle.board.specs.Perform.{plain_answer, longest_span, span_result, span, State, after}
+use Rattle.board.specs.Perform.{plain_answer, longest_span, span_result, span, after}
 use Rattle.board.specs.Cuts.{accepted}
 use Rattle.board.specs.SingleCalls.{RefusedCallChangesNothing, SpansAdd}
 use Rattle.board.proofs.Cutting.{clocks, clocks_add, span_accepted, refused_idle}

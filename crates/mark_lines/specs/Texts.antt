@@ -1,5 +1,5 @@
 -- Marks as text: numbers without padding, parts with a blank between them.
-use Rattle.std.specs.Prelude.{ℕ, Bool, cond, List, ◌++◌, codes, decimal}
+use Rattle.std.specs.Prelude.{ℕ, cond, List, ◌++◌, codes, decimal}
 use Rattle.board.specs.declared.marks.Line.{Line}
 use Rattle.board.specs.declared.marks.Line.TheVariants.{TxD, RxD, Int}
 use Rattle.board.specs.declared.marks.WireMark.{WireMark}
