@@ -2,3 +2,4 @@ mod Looking
 pub mod QuietFiring
 pub mod BareMotion
 pub mod Jumping
+mod Ticks

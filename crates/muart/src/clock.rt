@@ -1,5 +1,5 @@
 // One system clock of the stand-in, and many at once.
-ghost use Rattle.std.specs.Prelude.{◌≡◌, ℕ, ◌≤◌, min};
+ghost use Rattle.std.specs.Prelude.{◌≡◌, ℕ, ◌+◌, ◌*◌, ◌/◌, ◌≤◌, min};
 ghost use Rattle.timing.specs.Run.{times, when};
 ghost use Rattle.muart.specs.Bounds.{Sound};
 ghost use Rattle.muart.specs.Serial.{rate_in};
@@ -121,6 +121,7 @@ impl StandIn {
         requires short { clocks ≤ 16777216 }
         ensures after { self.new ≡ times clocks clocked self.old }
         ensures sound { Sound self.new }
+        ensures ticks { (n : ℕ) → ticks_in n self.old ≡ (self.old.rest.dividers.remainder.at + n * rate_in self.old) / 1024000 }
     {
         let modes = timer_modes(&self.rest.registers);
         let prescaler = prescale(self.rest.registers.command2);

@@ -1,5 +1,6 @@
 use Rattle.std.proofs.Common.{rules}
 use Rattle.muart.proofs.Jumping.{skip_lands}
+use Rattle.muart.proofs.Ticks.{tick_quotient}
 use Rattle.muart.proofs.state.StandIn.skip.Goals as goal
 
 pub returns : goal.returns
@@ -23,4 +24,5 @@ returns c = record {
       })
       _ _ _ _ _ _ c.requires.still c.skip-internals.ensures.state c.skip-steps.ensures.state c.skip.ensures.state c.skip-ticks.ensures.state c.skip-2.ensures.after c.skip-3.ensures.after;
   sound = search rules;
+  ticks = λ n. tick_quotient n c.args.self.now c.requires.sound;
 }
