@@ -14,6 +14,7 @@ use registers::latch::Latched;
 use registers::refusal::Refusal;
 use script::Operation;
 
+#[tactic(auto, using(recorder::proofs::Extending::extended_on))]
 fn both_pulses(
     board: &mut Board<Loopback>,
     wires: &mut Recorder<'_, WireMark>,
