@@ -43,3 +43,22 @@ impl LineBuffer {
         self.bytes.as_slice()
     }
 }
+
+#[cfg(test)]
+mod tests {
+    use super::LineBuffer;
+    use std::alloc::AllocError;
+
+    #[test]
+    fn a_long_line_keeps_its_first_81_bytes(rt: HostRuntime) -> Result<(), AllocError> {
+        let mut line = LineBuffer::new(rt.alloc());
+        for byte in 0..100u8 {
+            line.push(byte)?;
+        }
+        let kept = line.bytes();
+        assert!(rt; kept.len() == 81 && kept[0] == 0 && kept[80] == 80);
+        line.clear();
+        assert!(rt; line.bytes().is_empty());
+        Ok(())
+    }
+}
