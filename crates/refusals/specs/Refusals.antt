@@ -1,7 +1,7 @@
 -- The number of each refusal.
 use Rattle.std.specs.Prelude.{ℕ}
-use Rattle.registers.specs.declared.refusal.Refusal.{Refusal}
-use Rattle.registers.specs.declared.refusal.Refusal.TheVariants.{AddressTooHigh, NotSelected, UnlawfulWord, AcknowledgeDisabled, WrongFamily, InterruptLow, AlreadyBegun, NoneBegun, SpanTooLong, ClockPastEnd, NoSuchPin, OutputPin, ScriptLine, PlaceTooShort, NoSuchRegister}
+use Rattle.refusals.specs.declared.refusal.Refusal.{Refusal}
+use Rattle.refusals.specs.declared.refusal.Refusal.TheVariants.{AddressTooHigh, NotSelected, UnlawfulWord, AcknowledgeDisabled, WrongFamily, InterruptLow, AlreadyBegun, NoneBegun, SpanTooLong, ClockPastEnd, NoSuchPin, OutputPin, ScriptLine, PlaceTooShort, NoSuchRegister}
 
 abbrev pub number_of : Refusal → ℕ
 number_of AddressTooHigh = 1
