@@ -2,19 +2,20 @@
 ghost use Rattle.std.specs.Prelude.{◌≡◌, ◌<◌, false, replicate};
 ghost use Rattle.levels.specs.Sets.{lowest, levels, ended};
 ghost use Rattle.std.specs.List.{AllByRecursion};
-ghost use Rattle.levels.specs.Levels.{Within, Closed};
+ghost use Rattle.levels.specs.Levels.{Closed};
+
+use bits::Place as Level;
 
 use crate::priority::lowest_of;
 
 // END closes the lowest level in service, if any.
-pub fn end(service: &mut [bool; 8]) -> Option<u8>
+pub fn end(service: &mut [bool; 8]) -> Option<Level>
     ensures closes { result ≡ lowest service.old }
     ensures after { service.new ≡ ended service.old }
-    ensures within { Within result }
     ensures stack { Closed result service.old service.new }
 {
     let level = lowest_of(service)?;
-    service[level as usize] = false;
+    service[level.index()] = false;
     Some(level)
 }
 

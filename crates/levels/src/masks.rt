@@ -1,31 +1,31 @@
 // The mask of enabled levels: what it lets be recorded, and the words that change it.
-ghost use Rattle.std.specs.Prelude.{◌≡◌, ◌<◌, false, ◌&&◌, set as put, if◌then◌else◌, slice_index_or};
+ghost use Rattle.std.specs.Prelude.{◌≡◌, false, ◌&&◌, set as put, if◌then◌else◌, slice_index_or};
 ghost use Rattle.levels.specs.Bytes.{flags};
 ghost use Rattle.levels.specs.Sets.{union, minus};
 ghost use Rattle.levels.specs.Levels.{request, fresh};
 
+use bits::Place as Level;
+
 use crate::bytes::flags_of;
 
 // A request is recorded if its level is enabled; nothing changes where it is recorded already.
-pub fn request_if(requests: &mut [bool; 8], mask: &[bool; 8], level: u8, on: bool)
-    requires { level < 8 }
+pub fn request_if(requests: &mut [bool; 8], mask: &[bool; 8], level: Level, on: bool)
     ensures after { requests.new ≡ (if on then request level mask.now requests.old else requests.old) }
     ensures kept { fresh on level mask.now requests.old ≡ false → requests.new ≡ requests.old }
 {
-    let place = level as usize;
+    let place = level.index();
     if on && mask[place] {
         requests[place] = true;
     }
 }
 
 // A level that disables itself; nothing changes where it is disabled already.
-pub fn clear_if(mask: &mut [bool; 8], level: u8, on: bool)
-    requires { level < 8 }
+pub fn clear_if(mask: &mut [bool; 8], level: Level, on: bool)
     ensures after { mask.new ≡ (if on then put mask.old level false else mask.old) }
     ensures kept { (on && slice_index_or mask.old level false) ≡ false → mask.new ≡ mask.old }
 {
     if on {
-        mask[level as usize] = false;
+        mask[level.index()] = false;
     }
 }
 

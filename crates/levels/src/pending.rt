@@ -1,6 +1,8 @@
 // What a read of a register may disturb: the recorded requests and the levels in service.
 ghost use Rattle.std.specs.Prelude.{◌≡◌, true};
-ghost use Rattle.levels.specs.Levels.{due, taken, Within, Opened};
+ghost use Rattle.levels.specs.Levels.{due, taken, Opened};
+
+use bits::Place as Level;
 
 use crate::priority::{ready, requesting};
 
@@ -11,10 +13,9 @@ pub struct Pending {
 }
 
 // Taking picks the ready level, drops its recorded request and, with nesting on, puts it in service.
-pub fn take(pending: &mut Pending, mask: &[bool; 8], extint: bool, nesting: bool) -> Option<u8>
+pub fn take(pending: &mut Pending, mask: &[bool; 8], extint: bool, nesting: bool) -> Option<Level>
     ensures picks { result ≡ due pending.old mask.now extint nesting }
     ensures after { pending.new ≡ taken result pending.old nesting }
-    ensures within { Within result }
     ensures opens { nesting ≡ true → Opened result pending.old.service }
 {
     let level = ready(
@@ -22,7 +23,7 @@ pub fn take(pending: &mut Pending, mask: &[bool; 8], extint: bool, nesting: bool
         &pending.service,
         nesting,
     )?;
-    let place = level as usize;
+    let place = level.index();
     pending.requests[place] = false;
     if nesting {
         pending.service[place] = true;

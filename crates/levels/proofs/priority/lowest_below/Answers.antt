@@ -13,22 +13,13 @@ loop-level-preserved c =
     c.if-service-place.false c.if-requests-place.false
 
 pub returns-then-service-place : goal.returns-then-service-place
-returns-then-service-place c = record {
-  picks = sym (c.loop-level.invariant
-      ∙ left_cut c.args.requests.now c.args.service.now c.loop-level.level (omega arith) (omega arith) c.if-service-place.true);
-  within = tt;
-}
+returns-then-service-place c = sym (c.loop-level.invariant
+    ∙ left_cut c.args.requests.now c.args.service.now c.loop-level.level (omega arith) (omega arith) c.if-service-place.true)
 
 pub returns-then-requests-place : goal.returns-then-requests-place
-returns-then-requests-place c = record {
-  picks = sym (c.loop-level.invariant
-      ∙ left_found c.args.requests.now c.args.service.now c.loop-level.level (omega arith) (omega arith)
-      c.if-service-place.false c.if-requests-place.true);
-  within = omega arith;
-}
+returns-then-requests-place c = rw c.new.ensures (sym (c.loop-level.invariant
+    ∙ left_found c.args.requests.now c.args.service.now c.loop-level.level (omega arith) (omega arith)
+    c.if-service-place.false c.if-requests-place.true))
 
 pub returns : goal.returns
-returns c = record {
-  picks = sym (c.loop-level.invariant ∙ left_all c.args.requests.now c.args.service.now c.loop-level.level (omega arith));
-  within = tt;
-}
+returns c = sym (c.loop-level.invariant ∙ left_all c.args.requests.now c.args.service.now c.loop-level.level (omega arith))

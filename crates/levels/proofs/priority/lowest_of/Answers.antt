@@ -10,13 +10,7 @@ pub loop-place-preserved : goal.loop-place-preserved
 loop-place-preserved c = c.loop-place.invariant ∙ lowest_more c.args.set.now c.loop-place.place (omega arith) c.if-set-place.false
 
 pub returns-then-set-place : goal.returns-then-set-place
-returns-then-set-place c = record {
-  picks = sym (c.loop-place.invariant ∙ lowest_found c.args.set.now c.loop-place.place (omega arith) c.if-set-place.true);
-  within = omega arith;
-}
+returns-then-set-place c = rw c.new.ensures (sym (c.loop-place.invariant ∙ lowest_found c.args.set.now c.loop-place.place (omega arith) c.if-set-place.true))
 
 pub returns : goal.returns
-returns c = record {
-  picks = sym (c.loop-place.invariant ∙ lowest_all c.args.set.now c.loop-place.place (omega arith));
-  within = tt;
-}
+returns c = sym (c.loop-place.invariant ∙ lowest_all c.args.set.now c.loop-place.place (omega arith))
