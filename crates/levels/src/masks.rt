@@ -4,6 +4,8 @@ ghost use Rattle.levels.specs.Bytes.{flags};
 ghost use Rattle.levels.specs.Sets.{union, minus};
 ghost use Rattle.levels.specs.Levels.{request, fresh};
 
+use std::array;
+
 use bits::Place as Level;
 
 use crate::bytes::flags_of;
@@ -33,7 +35,8 @@ pub fn clear_if(mask: &mut [bool; 8], level: Level, on: bool)
 pub fn enable(mask: &mut [bool; 8], word: u8)
     ensures { mask.new ≡ union mask.old (flags word) }
 {
-    include(mask, &flags_of(word));
+    let chosen = flags_of(word);
+    *mask = array::from_fn(|level| mask[level] || chosen[level]);
 }
 
 // A disable word clears its 1 bits in the mask and drops their requests; what is in service stays there.
@@ -42,31 +45,13 @@ pub fn disable(mask: &mut [bool; 8], requests: &mut [bool; 8], word: u8)
     ensures dropped { requests.new ≡ minus requests.old (flags word) }
 {
     let chosen = flags_of(word);
-    exclude(mask, &chosen);
-    exclude(requests, &chosen);
+    *mask = difference(mask, &chosen);
+    *requests = difference(requests, &chosen);
 }
 
 // The levels of one set that another lacks.
 pub fn difference(set: &[bool; 8], other: &[bool; 8]) -> [bool; 8]
     ensures { result ≡ minus set.now other.now }
 {
-    let mut left = *set;
-    exclude(&mut left, other);
-    left
-}
-
-fn include(levels: &mut [bool; 8], chosen: &[bool; 8])
-    ensures { levels.new ≡ union levels.old chosen.now }
-{
-    for level in 0..8 {
-        levels[level] = levels[level] || chosen[level];
-    }
-}
-
-fn exclude(levels: &mut [bool; 8], chosen: &[bool; 8])
-    ensures { levels.new ≡ minus levels.old chosen.now }
-{
-    for level in 0..8 {
-        levels[level] = levels[level] && !chosen[level];
-    }
+    array::from_fn(|level| set[level] && !other[level])
 }
