@@ -1,5 +1,7 @@
 -- A byte and its eight bits say the same.
 use Rattle.std.proofs.Common.{◌≡◌, ℕ, zero, suc, ◌+◌, ◌*◌, ◌/◌, ◌%◌, ◌^◌, ◌<◌, Bool, true, false, cond, List, [], ◌∷◌, length, get_or, drop, sym, refl, ap, ◌∙◌, pow-suc, arith}
+use Rattle.std.proofs.Common.{map, ◌==◌}
+use Rattle.std.specs.List.{range_with_len}
 use native.Mathlib.Nat.{div-div-eq-div-mul}
 use mir.Val.{bool_byte}
 use Rattle.std.proofs.lemmas.List.{at_drop_more}
@@ -50,3 +52,7 @@ number false = refl
 -- the byte of a set, one place further
 pub byte_more : (s : List Bool) (i : ℕ) → i < length s → byte (drop i s) ≡ bool_byte (get_or s i false) + 2 * byte (drop (i + 1) s)
 byte_more s i h = at_drop_more byte s i false h ∙ ap (λ b. b + 2 * byte (drop (i + 1) s)) (number (get_or s i false))
+
+-- the flags as an array that a closure gives
+pub flags_made : (n : ℕ) → map (λ k. n / 2 ^ k % 2 == 1) (range_with_len 0 8) ≡ flags n
+flags_made n = let e : n / 1 ≡ n = omega arith in ap (λ m. odd m ∷ odd (n / 2) ∷ odd (n / 4) ∷ odd (n / 8) ∷ odd (n / 16) ∷ odd (n / 32) ∷ odd (n / 64) ∷ odd (n / 128) ∷ []) e

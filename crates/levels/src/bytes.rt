@@ -2,20 +2,15 @@
 ghost use Rattle.std.specs.Prelude.{◌≡◌};
 ghost use Rattle.levels.specs.Bytes.{flags, byte};
 
+use std::array;
+
+use bits::bit;
+
 pub fn flags_of(word: u8) -> [bool; 8]
     ensures bits { result ≡ flags word }
     ensures back { byte result ≡ word }
 {
-    [
-        word % 2 == 1,
-        word / 2 % 2 == 1,
-        word / 4 % 2 == 1,
-        word / 8 % 2 == 1,
-        word / 16 % 2 == 1,
-        word / 32 % 2 == 1,
-        word / 64 % 2 == 1,
-        word / 128 % 2 == 1,
-    ]
+    array::from_fn(|place| bit(word, place as u8))
 }
 
 pub fn byte_of(set: &[bool; 8]) -> u8

@@ -28,25 +28,17 @@ pub fn ready(requesting: &[bool; 8], service: &[bool; 8], nesting: bool) -> Opti
 pub(crate) fn lowest_of(set: &[bool; 8]) -> Option<Level>
     ensures { result ≡ lowest set.now }
 {
-    for place in 0..8u8 {
-        if set[place as usize] {
-            return Some(Level::new(place));
-        }
-    }
-    None
+    let place = set.iter().position(|on| *on)?;
+    Some(Level::new(place as u8))
 }
 
+// The lowest requesting level, if its number is below that of every level in service.
 fn lowest_below(requests: &[bool; 8], service: &[bool; 8]) -> Option<Level>
     ensures { result ≡ lowest (below requests.now service.now) }
 {
-    for level in 0..8u8 {
-        let place = level as usize;
-        if service[place] {
-            return None;
-        }
-        if requests[place] {
-            return Some(Level::new(level));
-        }
+    let level = lowest_of(requests)?;
+    match lowest_of(service) {
+        Some(served) if served.number() <= level.number() => None,
+        _ => Some(level),
     }
-    None
 }
