@@ -17,8 +17,8 @@ module _ {F B : Type 0} (g : Mut F (ℕ × Unit {0}) B) (h : ℕ → B) (f : F)
       elim (cases_lt i k) [
         | inl below ↦ given ys (i + 1) n k d r.0 called.0 r.4 (omega arith) (omega arith)
         | inr reached ↦
-          let same : i ≡ k = omega arith in
-          subst (λ j. get_or ys j d ≡ h j) same (r.2.1 d ∙ called.1)
+            let same : i ≡ k = omega arith in
+            subst (λ j. get_or ys j d ≡ h j) same (r.2.1 d ∙ called.1)
       ]
 
   -- the array of what the closure gives at each number

@@ -2,9 +2,8 @@
 ghost use Rattle.std.specs.Prelude.{◌≡◌};
 ghost use Rattle.levels.specs.Bytes.{flags, byte};
 
-use std::array;
-
 use bits::{bit, weight};
+use std::array;
 
 pub fn flags_of(word: u8) -> [bool; 8]
     ensures bits { result ≡ flags word }

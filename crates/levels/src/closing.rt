@@ -4,9 +4,9 @@ ghost use Rattle.levels.specs.Sets.{lowest, levels, ended};
 ghost use Rattle.std.specs.List.{AllByRecursion};
 ghost use Rattle.levels.specs.Levels.{Closed};
 
-use bits::Place as Level;
-
 use crate::priority::lowest_of;
+use bits::Place as Level;
+use std::mem;
 
 // END closes the lowest level in service, if any.
 pub fn end(service: &mut [bool; 8]) -> Option<Level>
@@ -25,7 +25,5 @@ pub fn close_all(service: &mut [bool; 8]) -> [bool; 8]
     ensures after { service.new ≡ replicate 8 false }
     ensures within { AllByRecursion (λ l. l < 8) (levels result) }
 {
-    let closed = *service;
-    *service = [false; 8];
-    closed
+    mem::replace(service, [false; 8])
 }

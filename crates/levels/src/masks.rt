@@ -4,11 +4,9 @@ ghost use Rattle.levels.specs.Bytes.{flags};
 ghost use Rattle.levels.specs.Sets.{union, minus};
 ghost use Rattle.levels.specs.Levels.{request, fresh};
 
-use std::array;
-
-use bits::Place as Level;
-
 use crate::bytes::flags_of;
+use bits::Place as Level;
+use std::array;
 
 // A request is recorded if its level is enabled; nothing changes where it is recorded already.
 pub fn request_if(requests: &mut [bool; 8], mask: &[bool; 8], level: Level, on: bool)

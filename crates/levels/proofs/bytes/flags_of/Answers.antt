@@ -7,5 +7,5 @@ use Rattle.levels.proofs.bytes.flags_of.Goals as goal
 pub returns : goal.returns
 returns c =
     let e = made _ (λ k. c.args.word / 2 ^ k % 2 == 1) _ (λ i y q k. search rules) c.from_fn.result 8 false c.from_fn.ensures.items
-        ∙ flags_made c.args.word in
+    ∙ flags_made c.args.word in
     record { bits = e; back = ap byte e ∙ byte_flags c.args.word (omega arith) }
