@@ -78,5 +78,6 @@ module _ (f : Form) (sound : SoundForm f) (w : ℕ → Bool) where
 
 -- the receiver's samples make its reception
 pub receives : (f : Form) (w : ℕ → Bool) → SoundForm f → Receives f w
+unfolding Receives
 receives f w sound =
     (λ high. let d = rw high at (started f sound w) in (d.state, d.silent), λ low. told f sound w low)

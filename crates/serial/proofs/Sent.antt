@@ -122,6 +122,7 @@ module _ (g : Form) (cts : Bool) (b : Option ℕ) where
 
 -- a loaded character is sent as its frame
 pub sends : (f : Form) (c : ℕ) → SoundForm f → Sends f c
+unfolding Sends
 sends f c sound g cts b =
     let d = all_shown g cts b (record { form = f; character = masked f c; left = f.ticks }) sound in
     (rw same_parity at d.shown, d.ends)

@@ -54,6 +54,7 @@ impl Receiver {
     }
 
     /// Takes an edge or a tick, and tells what was received with it.
+    #[tactic(auto, using(crate::proofs::Carried::carries, crate::proofs::Received::receives, crate::proofs::Returned::returned))]
     pub fn on(&mut self, event: Event) -> Option<Reception>
         requires event { SoundEvent event }
         requires sound { SoundReceiver self.old }
@@ -64,7 +65,25 @@ impl Receiver {
         ensures returns { (f : Form) (c : ℕ) → Returns f c }
         ensures carries { (f : Form) (c : ℕ) → SoundForm f → Carries f c }
     {
-        self.hear(event)
+        match (*self, event) {
+            (Receiver::Idle, Event::Fall(form)) => *self = Receiver::Start(Receiving::begun(form)),
+            (Receiver::Idle, Event::Tick(_)) | (_, Event::Fall(_)) => {}
+            (Receiver::Start(receiving), Event::Tick(rxd)) if receiving.left <= 1 => {
+                *self = receiving.past_start(rxd);
+            }
+            (Receiver::Data(receiving, place), Event::Tick(rxd)) if receiving.left <= 1 => {
+                *self = receiving.with_bit(place, rxd).past_bit(place);
+            }
+            (Receiver::Parity(receiving), Event::Tick(rxd)) if receiving.left <= 1 => {
+                *self = Receiver::Stop(receiving.with_parity(rxd));
+            }
+            (Receiver::Stop(receiving), Event::Tick(rxd)) if receiving.left <= 1 => {
+                *self = Receiver::Idle;
+                return Some(receiving.outcome(rxd));
+            }
+            (state, Event::Tick(_)) => *self = state.lessened(1),
+        }
+        None
     }
 
     /// The receiver is turned off: what it has gathered is lost.
@@ -97,35 +116,6 @@ impl Receiver {
             | Receiver::Parity(receiving)
             | Receiver::Stop(receiving) => u64::from(receiving.left - 1),
         }
-    }
-
-    // The step itself; the laws of whole frames stand on the public call.
-    fn hear(&mut self, event: Event) -> Option<Reception>
-        requires event { SoundEvent event }
-        requires sound { SoundReceiver self.old }
-        ensures value { result ≡ received event self.old }
-        ensures after { self.new ≡ heard event self.old }
-        ensures kept { SoundReceiver self.new }
-    {
-        match (*self, event) {
-            (Receiver::Idle, Event::Fall(form)) => *self = Receiver::Start(Receiving::begun(form)),
-            (Receiver::Idle, Event::Tick(_)) | (_, Event::Fall(_)) => {}
-            (Receiver::Start(receiving), Event::Tick(rxd)) if receiving.left <= 1 => {
-                *self = receiving.past_start(rxd);
-            }
-            (Receiver::Data(receiving, place), Event::Tick(rxd)) if receiving.left <= 1 => {
-                *self = receiving.with_bit(place, rxd).past_bit(place);
-            }
-            (Receiver::Parity(receiving), Event::Tick(rxd)) if receiving.left <= 1 => {
-                *self = Receiver::Stop(receiving.with_parity(rxd));
-            }
-            (Receiver::Stop(receiving), Event::Tick(rxd)) if receiving.left <= 1 => {
-                *self = Receiver::Idle;
-                return Some(receiving.outcome(rxd));
-            }
-            (state, Event::Tick(_)) => *self = state.lessened(1),
-        }
-        None
     }
 
     fn lessened(self, ticks: u32) -> Receiver

@@ -92,6 +92,7 @@ impl Transmitter {
     }
 
     /// One rate tick; a character that loads at the frame's last tick takes `form`. Tells whether level 5 is requested.
+    #[tactic(auto, using(crate::proofs::Sent::sends))]
     pub fn tick(&mut self, form: Form, cts: bool) -> bool
         requires form { SoundForm form }
         requires sound { SoundTransmitter self.old }
@@ -100,7 +101,13 @@ impl Transmitter {
         ensures kept { SoundTransmitter self.new }
         ensures sends { (f : Form) (c : ℕ) → SoundForm f → Sends f c }
     {
-        self.advance(form, cts)
+        let ends = self.phase.is_ending();
+        if ends {
+            self.offer(form, cts);
+        } else {
+            self.phase = self.phase.passed();
+        }
+        ends
     }
 
     /// Lets as many ticks pass at once, in which nothing but counting happens.
@@ -125,23 +132,6 @@ impl Transmitter {
             | Phase::Parity(sending)
             | Phase::Stop(sending) => u64::from(sending.left - 1),
         }
-    }
-
-    // The tick itself; the law of whole frames stands on the public call.
-    fn advance(&mut self, form: Form, cts: bool) -> bool
-        requires form { SoundForm form }
-        requires sound { SoundTransmitter self.old }
-        ensures value { result ≡ ending self.old.phase }
-        ensures after { self.new ≡ ticked form cts self.old }
-        ensures kept { SoundTransmitter self.new }
-    {
-        let ends = self.phase.is_ending();
-        if ends {
-            self.offer(form, cts);
-        } else {
-            self.phase = self.phase.passed();
-        }
-        ends
     }
 
     // With nothing being sent, the buffer loads if CTS is low. Tells whether it did.
