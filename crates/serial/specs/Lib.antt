@@ -1,4 +1,5 @@
 pub mod Far
+pub mod FormViews
 pub mod Forms
 pub mod Frames
 pub mod Laws

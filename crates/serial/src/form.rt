@@ -3,6 +3,7 @@ ghost use Rattle.std.specs.Prelude.{◌≡◌};
 ghost use Rattle.serial.specs.Forms.{form_of, parity_of, stops_of, SoundForm, masked, parity_bit, stop_ticks};
 
 use crate::rate::bit_ticks;
+use std::marker::Model;
 
 #[derive(Clone, Copy)]
 pub enum Parity {
@@ -21,10 +22,24 @@ pub enum Stops {
 /// How a character is sent: `length` data bits, each bit for `ticks` rate ticks.
 #[derive(Clone, Copy)]
 pub struct Form {
-    pub length: u8,
-    pub parity: Parity,
-    pub stops: Stops,
-    pub ticks: u32,
+    length: u8,
+    parity: Parity,
+    stops: Stops,
+    ticks: u32,
+}
+
+impl Model for Form {
+    ghost use Rattle.serial.specs.FormViews.{FormView};
+
+    ghost Value = { FormView };
+
+    ghost use Rattle.serial.specs.Forms.{SoundForm};
+
+    ghost view = { λ f. record { length = f.length; parity = f.parity; stops = f.stops; ticks = f.ticks } };
+
+    ghost invariant = { λ f. SoundForm (record { length = f.length; parity = f.parity; stops = f.stops; ticks = f.ticks }) };
+
+    ghost inverse = { λ v. record { length = v.length; parity = v.parity; stops = v.stops; ticks = v.ticks } };
 }
 
 impl Form {
@@ -40,9 +55,28 @@ impl Form {
         }
     }
 
+    pub(crate) fn length(self) -> u8
+        ensures { result ≡ self.length }
+    {
+        self.length
+    }
+
+    pub(crate) fn parity(self) -> Parity
+        ensures { result ≡ self.parity }
+    {
+        self.parity
+    }
+
+    /// How many rate ticks a bit lasts.
+    pub(crate) fn ticks(self) -> u32
+        ensures value { result ≡ self.ticks }
+        ensures sound { SoundForm self }
+    {
+        self.ticks
+    }
+
     /// The character without the high bits that its length leaves out.
     pub(crate) fn masked(self, character: u8) -> u8
-        requires { SoundForm self }
         ensures { result ≡ masked self character }
     {
         (u16::from(character) % (1 << self.length)) as u8
@@ -50,7 +84,6 @@ impl Form {
 
     /// The level of the parity bit; low where the form has none.
     pub fn parity_bit(self, character: u8) -> bool
-        requires { SoundForm self }
         ensures { result ≡ parity_bit self character }
     {
         let odd = self.masked(character).count_ones() % 2 == 1;
@@ -63,7 +96,6 @@ impl Form {
 
     /// How long the line stays high after the last bit.
     pub(crate) fn stop_ticks(self) -> u32
-        requires { SoundForm self }
         ensures { result ≡ stop_ticks self }
     {
         match self.stops {

@@ -56,7 +56,6 @@ impl Receiver {
     /// Takes an edge or a tick, and tells what was received with it.
     #[tactic(auto, using(crate::proofs::Carried::carries, crate::proofs::Received::receives, crate::proofs::Returned::returned))]
     pub fn on(&mut self, event: Event) -> Option<Reception>
-        requires event { SoundEvent event }
         requires sound { SoundReceiver self.old }
         ensures value { result ≡ received event self.old }
         ensures after { self.new ≡ heard event self.old }
@@ -65,23 +64,24 @@ impl Receiver {
         ensures returns { (f : Form) (c : ℕ) → Returns f c }
         ensures carries { (f : Form) (c : ℕ) → SoundForm f → Carries f c }
     {
+        let counts = self.horizon() > 0;
         match (*self, event) {
             (Receiver::Idle, Event::Fall(form)) => *self = Receiver::Start(Receiving::begun(form)),
             (Receiver::Idle, Event::Tick(_)) | (_, Event::Fall(_)) => {}
-            (Receiver::Start(receiving), Event::Tick(rxd)) if receiving.left <= 1 => {
+            (state, Event::Tick(_)) if counts => *self = state.lessened(1),
+            (Receiver::Start(receiving), Event::Tick(rxd)) => {
                 *self = receiving.past_start(rxd);
             }
-            (Receiver::Data(receiving, place), Event::Tick(rxd)) if receiving.left <= 1 => {
+            (Receiver::Data(receiving, place), Event::Tick(rxd)) => {
                 *self = receiving.with_bit(place, rxd).past_bit(place);
             }
-            (Receiver::Parity(receiving), Event::Tick(rxd)) if receiving.left <= 1 => {
+            (Receiver::Parity(receiving), Event::Tick(rxd)) => {
                 *self = Receiver::Stop(receiving.with_parity(rxd));
             }
-            (Receiver::Stop(receiving), Event::Tick(rxd)) if receiving.left <= 1 => {
+            (Receiver::Stop(receiving), Event::Tick(rxd)) => {
                 *self = Receiver::Idle;
                 return Some(receiving.outcome(rxd));
             }
-            (state, Event::Tick(_)) => *self = state.lessened(1),
         }
         None
     }
@@ -136,14 +136,14 @@ impl Receiver {
 
 impl Receiving {
     fn begun(form: Form) -> Receiving
-        requires { SoundForm form }
-        ensures { result ≡ begun form }
+        ensures value { result ≡ begun form }
+        ensures kept { SoundReceiving result 0 }
     {
         Receiving {
             form,
             character: 0,
             parity: false,
-            left: form.ticks / 2,
+            left: form.ticks() / 2,
         }
     }
 
@@ -155,7 +155,7 @@ impl Receiving {
         if rxd {
             Receiver::Idle
         } else {
-            Receiver::Data(self.lasting(self.form.ticks), 0)
+            Receiver::Data(self.lasting(self.form.ticks()), 0)
         }
     }
 
@@ -167,7 +167,7 @@ impl Receiving {
     {
         Receiving {
             character: self.character + worth(place, rxd),
-            left: self.form.ticks,
+            left: self.form.ticks(),
             ..self
         }
     }
@@ -177,7 +177,7 @@ impl Receiving {
     {
         Receiving {
             parity: rxd,
-            left: self.form.ticks,
+            left: self.form.ticks(),
             ..self
         }
     }
@@ -188,7 +188,7 @@ impl Receiving {
         ensures value { result ≡ past_bit self place }
         ensures kept { SoundReceiver result }
     {
-        if place + 1 < self.form.length {
+        if place + 1 < self.form.length() {
             Receiver::Data(self, place + 1)
         } else {
             self.past_data()
@@ -200,14 +200,13 @@ impl Receiving {
         ensures value { result ≡ past_data self }
         ensures kept { SoundReceiver result }
     {
-        match self.form.parity {
+        match self.form.parity() {
             Parity::Off => Receiver::Stop(self),
             Parity::Even | Parity::Odd => Receiver::Parity(self),
         }
     }
 
     fn outcome(self, stop: bool) -> Reception
-        requires { SoundForm self.form }
         ensures { result ≡ outcome self.form self.character self.parity stop }
     {
         if self.character == 0 && !self.parity && !stop {

@@ -70,7 +70,6 @@ impl Transmitter {
 
     /// Fills the buffer, and loads it if nothing is being sent and CTS is low. Tells whether level 5 is requested.
     pub fn write(&mut self, character: u8, form: Form, cts: bool) -> bool
-        requires form { SoundForm form }
         requires sound { SoundTransmitter self.old }
         ensures value { result ≡ (idle self.old.phase && not cts) }
         ensures after { self.new ≡ written character form cts self.old }
@@ -82,7 +81,6 @@ impl Transmitter {
 
     /// CTS fell: loads what waits. Tells whether level 5 is requested.
     pub fn release(&mut self, form: Form) -> bool
-        requires form { SoundForm form }
         requires sound { SoundTransmitter self.old }
         ensures value { result ≡ (idle self.old.phase && is_some self.old.buffer) }
         ensures after { self.new ≡ released form self.old }
@@ -94,7 +92,6 @@ impl Transmitter {
     /// One rate tick; a character that loads at the frame's last tick takes `form`. Tells whether level 5 is requested.
     #[tactic(auto, using(crate::proofs::Sent::sends))]
     pub fn tick(&mut self, form: Form, cts: bool) -> bool
-        requires form { SoundForm form }
         requires sound { SoundTransmitter self.old }
         ensures value { result ≡ ending self.old.phase }
         ensures after { self.new ≡ ticked form cts self.old }
@@ -125,18 +122,11 @@ impl Transmitter {
         requires { SoundTransmitter self.now }
         ensures { result ≡ quiet_ticks self.now.phase }
     {
-        match self.phase {
-            Phase::Idle => FAR,
-            Phase::Start(sending)
-            | Phase::Data(sending, _)
-            | Phase::Parity(sending)
-            | Phase::Stop(sending) => u64::from(sending.left - 1),
-        }
+        self.phase.horizon()
     }
 
     // With nothing being sent, the buffer loads if CTS is low. Tells whether it did.
     fn offer(&mut self, form: Form, cts: bool) -> bool
-        requires { SoundForm form }
         ensures value { result ≡ (is_some self.old.buffer && not cts) }
         ensures after { self.new ≡ offered form cts self.old.buffer }
         ensures kept { SoundTransmitter self.new }
@@ -157,14 +147,13 @@ impl Transmitter {
 
 impl Phase {
     fn begun(form: Form, character: u8) -> Phase
-        requires { SoundForm form }
         ensures value { result ≡ begun form character }
         ensures kept { SoundPhase result }
     {
         Phase::Start(Sending {
             form,
             character: form.masked(character),
-            left: form.ticks,
+            left: form.ticks(),
         })
     }
 
@@ -181,12 +170,27 @@ impl Phase {
         ensures value { result ≡ passed self }
         ensures kept { SoundPhase result }
     {
+        if self.horizon() > 0 {
+            return self.lessened(1);
+        }
         match self {
-            Phase::Start(sending) if sending.left <= 1 => Phase::Data(sending.bit_long(), 0),
-            Phase::Data(sending, place) if sending.left <= 1 => sending.past_bit(place),
-            Phase::Parity(sending) if sending.left <= 1 => sending.stopping(),
-            Phase::Stop(sending) if sending.left <= 1 => Phase::Idle,
-            phase => phase.lessened(1),
+            Phase::Start(sending) => Phase::Data(sending.bit_long(), 0),
+            Phase::Data(sending, place) => sending.past_bit(place),
+            Phase::Parity(sending) => sending.stopping(),
+            Phase::Idle | Phase::Stop(_) => Phase::Idle,
+        }
+    }
+
+    fn horizon(&self) -> u64
+        requires { SoundPhase self.now }
+        ensures { result ≡ quiet_ticks self.now }
+    {
+        match *self {
+            Phase::Idle => FAR,
+            Phase::Start(sending)
+            | Phase::Data(sending, _)
+            | Phase::Parity(sending)
+            | Phase::Stop(sending) => u64::from(sending.left - 1),
         }
     }
 
@@ -213,7 +217,7 @@ impl Sending {
         ensures value { result ≡ past_bit self place }
         ensures kept { SoundPhase result }
     {
-        if place + 1 < self.form.length {
+        if place + 1 < self.form.length() {
             Phase::Data(self.bit_long(), place + 1)
         } else {
             self.past_data()
@@ -225,7 +229,7 @@ impl Sending {
         ensures value { result ≡ past_data self }
         ensures kept { SoundPhase result }
     {
-        match self.form.parity {
+        match self.form.parity() {
             Parity::Off => self.stopping(),
             Parity::Even | Parity::Odd => Phase::Parity(self.bit_long()),
         }
@@ -242,7 +246,7 @@ impl Sending {
     fn bit_long(self) -> Sending
         ensures { result ≡ lasting self.form.ticks self }
     {
-        self.lasting(self.form.ticks)
+        self.lasting(self.form.ticks())
     }
 
     fn less(self, ticks: u32) -> Sending
