@@ -8,7 +8,7 @@ use Rattle.serial.specs.Receiving.{passed as hears, quiet_ticks as quiet_hearing
 use Rattle.serial.specs.Sending.{ending, level, passed as sends, quiet_ticks as quiet_sending, ticked}
 use Rattle.serial.specs.declared.form.Form.{Form}
 use Rattle.serial.specs.declared.receiver.Receiver.{Receiver}
-use Rattle.serial.specs.declared.receiver.Receiver.TheVariants as receiver
+use Rattle.serial.specs.declared.receiver.State.TheVariants as receiver
 use Rattle.serial.specs.declared.transmitter.Phase.{Phase}
 use Rattle.serial.specs.declared.transmitter.Phase.TheVariants as phase
 use Rattle.serial.specs.declared.transmitter.Transmitter.{Transmitter}

@@ -8,3 +8,4 @@ pub mod Rates
 pub mod Receiving
 pub mod Samples
 pub mod Sending
+pub mod TransmitterViews

@@ -7,6 +7,7 @@ ghost use Rattle.serial.specs.Receiving.{SoundReceiving, SoundReceiver, SoundEve
 
 use crate::form::{Form, Parity};
 use crate::rate::FAR;
+use std::marker::Model;
 
 /// A frame being received: its form, the data bits gathered so far, the parity bit once sampled, and the ticks to the next sample.
 #[derive(Clone, Copy)]
@@ -19,13 +20,32 @@ pub struct Receiving {
 
 /// What the next sample will be.
 #[derive(Clone, Copy)]
-pub enum Receiver {
+pub enum State {
     Idle,
     Start(Receiving),
     /// The data bit at this place, the lowest at 0.
     Data(Receiving, u8),
     Parity(Receiving),
     Stop(Receiving),
+}
+
+#[derive(Clone, Copy)]
+pub struct Receiver {
+    state: State,
+}
+
+impl Model for Receiver {
+    ghost use Rattle.serial.specs.declared.receiver.State.{State};
+
+    ghost Value = { State };
+
+    ghost use Rattle.serial.specs.Receiving.{SoundReceiver};
+
+    ghost view = { λ r. r.state };
+
+    ghost invariant = { λ r. SoundReceiver r.state };
+
+    ghost inverse = { λ s. record { state = s } };
 }
 
 #[derive(Clone, Copy)]
@@ -48,38 +68,34 @@ pub enum Reception {
 
 impl Receiver {
     pub fn new() -> Receiver
-        ensures { result ≡ Receiver.Idle }
+        ensures { result ≡ State.Idle }
     {
-        Self::Idle
+        Receiver { state: State::Idle }
     }
 
     /// Takes an edge or a tick, and tells what was received with it.
     #[tactic(auto, using(crate::proofs::Carried::carries, crate::proofs::Received::receives, crate::proofs::Returned::returned))]
     pub fn on(&mut self, event: Event) -> Option<Reception>
-        requires sound { SoundReceiver self.old }
         ensures value { result ≡ received event self.old }
         ensures after { self.new ≡ heard event self.old }
-        ensures kept { SoundReceiver self.new }
         ensures receives { (f : Form) (w : ℕ → Bool) → SoundForm f → Receives f w }
         ensures returns { (f : Form) (c : ℕ) → Returns f c }
         ensures carries { (f : Form) (c : ℕ) → SoundForm f → Carries f c }
     {
-        let counts = self.horizon() > 0;
-        match (*self, event) {
-            (Receiver::Idle, Event::Fall(form)) => *self = Receiver::Start(Receiving::begun(form)),
-            (Receiver::Idle, Event::Tick(_)) | (_, Event::Fall(_)) => {}
-            (state, Event::Tick(_)) if counts => *self = state.lessened(1),
-            (Receiver::Start(receiving), Event::Tick(rxd)) => {
-                *self = receiving.past_start(rxd);
+        let counts = self.state.horizon() > 0;
+        match (self.state, event) {
+            (State::Idle, Event::Fall(form)) => self.state = State::Start(Receiving::begun(form)),
+            (State::Idle, Event::Tick(_)) | (_, Event::Fall(_)) => {}
+            (state, Event::Tick(_)) if counts => self.state = state.lessened(1),
+            (State::Start(receiving), Event::Tick(rxd)) => self.state = receiving.past_start(rxd),
+            (State::Data(receiving, place), Event::Tick(rxd)) => {
+                self.state = receiving.with_bit(place, rxd).past_bit(place);
             }
-            (Receiver::Data(receiving, place), Event::Tick(rxd)) => {
-                *self = receiving.with_bit(place, rxd).past_bit(place);
+            (State::Parity(receiving), Event::Tick(rxd)) => {
+                self.state = State::Stop(receiving.with_parity(rxd));
             }
-            (Receiver::Parity(receiving), Event::Tick(rxd)) => {
-                *self = Receiver::Stop(receiving.with_parity(rxd));
-            }
-            (Receiver::Stop(receiving), Event::Tick(rxd)) => {
-                *self = Receiver::Idle;
+            (State::Stop(receiving), Event::Tick(rxd)) => {
+                self.state = State::Idle;
                 return Some(receiving.outcome(rxd));
             }
         }
@@ -88,48 +104,54 @@ impl Receiver {
 
     /// The receiver is turned off: what it has gathered is lost.
     pub fn disable(&mut self)
-        ensures { self.new ≡ Receiver.Idle }
+        ensures { self.new ≡ State.Idle }
     {
         *self = Receiver::new();
     }
 
     /// Lets as many ticks pass at once, in which no sample falls.
     pub fn skip(&mut self, ticks: u64)
-        requires sound { SoundReceiver self.old }
-        requires quiet { ticks ≤ quiet_ticks self.old }
+        requires { ticks ≤ quiet_ticks self.old }
         ensures after { (w : ℕ → Bool) → self.new ≡ after_ticks w ticks self.old }
         ensures silent { (w : ℕ → Bool) (k : ℕ) → k ≤ ticks → tells w k self.old ≡ Nothing }
-        ensures kept { SoundReceiver self.new }
     {
-        *self = self.lessened(ticks as u32);
+        self.state = self.state.lessened(ticks as u32);
     }
 
     /// How many ticks pass before the one that samples.
     pub fn horizon(&self) -> u64
+        ensures { result ≡ quiet_ticks self.now }
+    {
+        self.state.horizon()
+    }
+}
+
+impl State {
+    fn horizon(&self) -> u64
         requires { SoundReceiver self.now }
         ensures { result ≡ quiet_ticks self.now }
     {
         match *self {
-            Receiver::Idle => FAR,
-            Receiver::Start(receiving)
-            | Receiver::Data(receiving, _)
-            | Receiver::Parity(receiving)
-            | Receiver::Stop(receiving) => u64::from(receiving.left - 1),
+            State::Idle => FAR,
+            State::Start(receiving)
+            | State::Data(receiving, _)
+            | State::Parity(receiving)
+            | State::Stop(receiving) => u64::from(receiving.left - 1),
         }
     }
 
-    fn lessened(self, ticks: u32) -> Receiver
+    fn lessened(self, ticks: u32) -> State
         requires sound { SoundReceiver self }
         requires quiet { ticks ≤ quiet_ticks self }
         ensures value { result ≡ lessened ticks self }
         ensures kept { SoundReceiver result }
     {
         match self {
-            Receiver::Idle => Receiver::Idle,
-            Receiver::Start(receiving) => Receiver::Start(receiving.less(ticks)),
-            Receiver::Data(receiving, place) => Receiver::Data(receiving.less(ticks), place),
-            Receiver::Parity(receiving) => Receiver::Parity(receiving.less(ticks)),
-            Receiver::Stop(receiving) => Receiver::Stop(receiving.less(ticks)),
+            State::Idle => State::Idle,
+            State::Start(receiving) => State::Start(receiving.less(ticks)),
+            State::Data(receiving, place) => State::Data(receiving.less(ticks), place),
+            State::Parity(receiving) => State::Parity(receiving.less(ticks)),
+            State::Stop(receiving) => State::Stop(receiving.less(ticks)),
         }
     }
 }
@@ -147,15 +169,15 @@ impl Receiving {
         }
     }
 
-    fn past_start(self, rxd: bool) -> Receiver
+    fn past_start(self, rxd: bool) -> State
         requires { SoundReceiving self 0 }
         ensures value { result ≡ past_start self rxd }
         ensures kept { SoundReceiver result }
     {
         if rxd {
-            Receiver::Idle
+            State::Idle
         } else {
-            Receiver::Data(self.lasting(self.form.ticks()), 0)
+            State::Data(self.lasting(self.form.ticks()), 0)
         }
     }
 
@@ -182,27 +204,27 @@ impl Receiving {
         }
     }
 
-    fn past_bit(self, place: u8) -> Receiver
+    fn past_bit(self, place: u8) -> State
         requires sound { SoundReceiving self (place + 1) }
         requires place { place < self.form.length }
         ensures value { result ≡ past_bit self place }
         ensures kept { SoundReceiver result }
     {
         if place + 1 < self.form.length() {
-            Receiver::Data(self, place + 1)
+            State::Data(self, place + 1)
         } else {
             self.past_data()
         }
     }
 
-    fn past_data(self) -> Receiver
+    fn past_data(self) -> State
         requires { SoundReceiving self self.form.length }
         ensures value { result ≡ past_data self }
         ensures kept { SoundReceiver result }
     {
         match self.form.parity() {
-            Parity::Off => Receiver::Stop(self),
-            Parity::Even | Parity::Odd => Receiver::Parity(self),
+            Parity::Off => State::Stop(self),
+            Parity::Even | Parity::Odd => State::Parity(self),
         }
     }
 

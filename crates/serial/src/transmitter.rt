@@ -3,10 +3,11 @@ ghost use Rattle.std.specs.Prelude.{◌≡◌, ℕ, ◌-◌, ◌<◌, ◌≤◌,
 ghost use Rattle.serial.specs.Forms.{SoundForm};
 ghost use Rattle.serial.specs.Laws.{Sends};
 ghost use Rattle.timing.specs.Run.{times};
-ghost use Rattle.serial.specs.Sending.{SoundSending, SoundPhase, SoundTransmitter, begun, ending, fresh, idle, lasting, lessened, level, offered, passed, past_bit, past_data, quiet_ticks, released, stopping, ticked, written};
+ghost use Rattle.serial.specs.Sending.{SoundSending, SoundPhase, begun, ending, fresh, idle, lasting, lessened, level, offered, passed, past_bit, past_data, quiet_ticks, released, stopping, ticked, written};
 
 use crate::form::{Form, Parity};
 use crate::rate::FAR;
+use std::marker::Model;
 
 /// A frame under way: the form it began with, its character, and the ticks left in its phase.
 #[derive(Clone, Copy)]
@@ -28,8 +29,22 @@ pub enum Phase {
 
 #[derive(Clone, Copy)]
 pub struct Transmitter {
-    pub buffer: Option<u8>,
-    pub phase: Phase,
+    buffer: Option<u8>,
+    phase: Phase,
+}
+
+impl Model for Transmitter {
+    ghost use Rattle.serial.specs.TransmitterViews.{TransmitterView};
+
+    ghost Value = { TransmitterView };
+
+    ghost use Rattle.serial.specs.Sending.{SoundTransmitter};
+
+    ghost view = { λ t. record { buffer = t.buffer; phase = t.phase } };
+
+    ghost invariant = { λ t. SoundTransmitter (record { buffer = t.buffer; phase = t.phase }) };
+
+    ghost inverse = { λ v. record { buffer = v.buffer; phase = v.phase } };
 }
 
 impl Transmitter {
@@ -43,7 +58,6 @@ impl Transmitter {
     }
 
     pub fn txd(&self) -> bool
-        requires { SoundTransmitter self.now }
         ensures { result ≡ level self.now.phase }
     {
         match self.phase {
@@ -70,10 +84,8 @@ impl Transmitter {
 
     /// Fills the buffer, and loads it if nothing is being sent and CTS is low. Tells whether level 5 is requested.
     pub fn write(&mut self, character: u8, form: Form, cts: bool) -> bool
-        requires sound { SoundTransmitter self.old }
         ensures value { result ≡ (idle self.old.phase && not cts) }
         ensures after { self.new ≡ written character form cts self.old }
-        ensures kept { SoundTransmitter self.new }
     {
         self.buffer = Some(character);
         self.tre() && self.offer(form, cts)
@@ -81,10 +93,8 @@ impl Transmitter {
 
     /// CTS fell: loads what waits. Tells whether level 5 is requested.
     pub fn release(&mut self, form: Form) -> bool
-        requires sound { SoundTransmitter self.old }
         ensures value { result ≡ (idle self.old.phase && is_some self.old.buffer) }
         ensures after { self.new ≡ released form self.old }
-        ensures kept { SoundTransmitter self.new }
     {
         self.tre() && self.offer(form, false)
     }
@@ -92,10 +102,8 @@ impl Transmitter {
     /// One rate tick; a character that loads at the frame's last tick takes `form`. Tells whether level 5 is requested.
     #[tactic(auto, using(crate::proofs::Sent::sends))]
     pub fn tick(&mut self, form: Form, cts: bool) -> bool
-        requires sound { SoundTransmitter self.old }
         ensures value { result ≡ ending self.old.phase }
         ensures after { self.new ≡ ticked form cts self.old }
-        ensures kept { SoundTransmitter self.new }
         ensures sends { (f : Form) (c : ℕ) → SoundForm f → Sends f c }
     {
         let ends = self.phase.is_ending();
@@ -109,17 +117,14 @@ impl Transmitter {
 
     /// Lets as many ticks pass at once, in which nothing but counting happens.
     pub fn skip(&mut self, ticks: u64)
-        requires sound { SoundTransmitter self.old }
-        requires quiet { ticks ≤ quiet_ticks self.old.phase }
-        ensures after { (form : Form) (cts : Bool) → self.new ≡ times ticks (ticked form cts) self.old }
-        ensures kept { SoundTransmitter self.new }
+        requires { ticks ≤ quiet_ticks self.old.phase }
+        ensures { (form : Form) (cts : Bool) → self.new ≡ times ticks (ticked form cts) self.old }
     {
         self.phase = self.phase.lessened(ticks as u32);
     }
 
     /// How many ticks pass with nothing but counting.
     pub fn horizon(&self) -> u64
-        requires { SoundTransmitter self.now }
         ensures { result ≡ quiet_ticks self.now.phase }
     {
         self.phase.horizon()
@@ -129,7 +134,6 @@ impl Transmitter {
     fn offer(&mut self, form: Form, cts: bool) -> bool
         ensures value { result ≡ (is_some self.old.buffer && not cts) }
         ensures after { self.new ≡ offered form cts self.old.buffer }
-        ensures kept { SoundTransmitter self.new }
     {
         match self.buffer {
             Some(character) if !cts => {
