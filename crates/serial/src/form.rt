@@ -1,13 +1,12 @@
 //! The form of a character on the line, as two command bytes give it.
 ghost use Rattle.std.specs.Prelude.{◌≡◌};
-ghost use Rattle.serial.specs.Forms.{form_of, parity_of, stops_of, SoundForm, masked, parity_bit, stop_ticks};
+ghost use Rattle.serial.specs.Forms.{form_of, parity_of, stops_of, SoundForm, has_parity, masked, parity_bit, stop_ticks};
 
 use crate::rate::bit_ticks;
 use std::marker::Model;
 
 #[derive(Clone, Copy)]
 pub enum Parity {
-    Off,
     Even,
     Odd,
 }
@@ -23,7 +22,7 @@ pub enum Stops {
 #[derive(Clone, Copy)]
 pub struct Form {
     length: u8,
-    parity: Parity,
+    parity: Option<Parity>,
     stops: Stops,
     ticks: u32,
 }
@@ -61,10 +60,10 @@ impl Form {
         self.length
     }
 
-    pub(crate) fn parity(self) -> Parity
-        ensures { result ≡ self.parity }
+    pub(crate) fn has_parity(self) -> bool
+        ensures { result ≡ has_parity self.parity }
     {
-        self.parity
+        self.parity.is_some()
     }
 
     /// How many rate ticks a bit lasts.
@@ -88,9 +87,9 @@ impl Form {
     {
         let odd = self.masked(character).count_ones() % 2 == 1;
         match self.parity {
-            Parity::Off => false,
-            Parity::Even => odd,
-            Parity::Odd => !odd,
+            None => false,
+            Some(Parity::Even) => odd,
+            Some(Parity::Odd) => !odd,
         }
     }
 
@@ -107,13 +106,13 @@ impl Form {
 }
 
 impl Parity {
-    fn of(command2: u8) -> Parity
+    fn of(command2: u8) -> Option<Parity>
         ensures { result ≡ parity_of command2 }
     {
         match command2 / 64 {
-            0 | 1 => Parity::Off,
-            2 => Parity::Odd,
-            _ => Parity::Even,
+            0 | 1 => None,
+            2 => Some(Parity::Odd),
+            _ => Some(Parity::Even),
         }
     }
 }

@@ -5,7 +5,7 @@ ghost use Rattle.serial.specs.Laws.{Carries, Receives, Returns};
 ghost use Rattle.serial.specs.Lines.{after as after_ticks, tells};
 ghost use Rattle.serial.specs.Receiving.{SoundReceiving, SoundReceiver, SoundEvent, begun, lasting, with_bit, with_parity, past_bit, past_data, past_start, heard, received, outcome, quiet_ticks, lessened, worth};
 
-use crate::form::{Form, Parity};
+use crate::form::Form;
 use crate::rate::FAR;
 use std::marker::Model;
 
@@ -222,9 +222,10 @@ impl Receiving {
         ensures value { result ≡ past_data self }
         ensures kept { SoundReceiver result }
     {
-        match self.form.parity() {
-            Parity::Off => State::Stop(self),
-            Parity::Even | Parity::Odd => State::Parity(self),
+        if self.form.has_parity() {
+            State::Parity(self)
+        } else {
+            State::Stop(self)
         }
     }
 

@@ -5,7 +5,7 @@ ghost use Rattle.serial.specs.Laws.{Sends};
 ghost use Rattle.timing.specs.Run.{times};
 ghost use Rattle.serial.specs.Sending.{SoundSending, SoundPhase, begun, ending, fresh, idle, lasting, lessened, level, offered, passed, past_bit, past_data, quiet_ticks, released, stopping, ticked, written};
 
-use crate::form::{Form, Parity};
+use crate::form::Form;
 use crate::rate::FAR;
 use std::marker::Model;
 
@@ -233,9 +233,10 @@ impl Sending {
         ensures value { result ≡ past_data self }
         ensures kept { SoundPhase result }
     {
-        match self.form.parity() {
-            Parity::Off => self.stopping(),
-            Parity::Even | Parity::Odd => Phase::Parity(self.bit_long()),
+        if self.form.has_parity() {
+            Phase::Parity(self.bit_long())
+        } else {
+            self.stopping()
         }
     }
 
