@@ -1,5 +1,5 @@
 -- The form of a character, and what follows from it alone.
-use Rattle.std.specs.Prelude.{ℕ, ◌+◌, ◌-◌, ◌*◌, ◌/◌, ◌%◌, ◌^◌, ◌≤◌, Bool, true, false, cond, not, Some, None, Option, is_some, ◌==◌, count_ones}
+use Rattle.std.specs.Prelude.{ℕ, ◌+◌, ◌-◌, ◌*◌, ◌/◌, ◌%◌, ◌^◌, ◌≤◌, Bool, false, cond, not, Some, None, Option, is_some, ◌==◌, count_ones}
 use Rattle.serial.specs.Rates.{ticks_of}
 use Rattle.serial.specs.declared.form.Form.{Form}
 use Rattle.serial.specs.declared.form.Parity.{Parity}

@@ -10,7 +10,7 @@ use Rattle.serial.specs.Sending.{begun, level, offered, ticked}
 use Rattle.serial.specs.declared.form.Form.{Form}
 use Rattle.serial.specs.declared.transmitter.Transmitter.{Transmitter}
 use Rattle.serial.specs.declared.receiver.Receiver.{Receiver}
-use Rattle.serial.specs.declared.receiver.State.TheVariants.{Idle}
+use Rattle.serial.specs.declared.stage.Stage.TheVariants.{Idle}
 use Rattle.serial.specs.declared.receiver.Event.TheVariants.{Fall}
 use Rattle.serial.specs.declared.receiver.Reception.TheVariants.{Character}
 

@@ -8,4 +8,5 @@ pub mod Rates
 pub mod Receiving
 pub mod Samples
 pub mod Sending
+pub mod Stages
 pub mod TransmitterViews

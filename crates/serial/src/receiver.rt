@@ -1,43 +1,34 @@
 //! The receiver: what it has gathered of a frame, and the ticks to its next sample.
-ghost use Rattle.std.specs.Prelude.{◌≡◌, ℕ, ◌+◌, ◌-◌, ◌<◌, ◌≤◌, Bool, None as Nothing};
+ghost use Rattle.std.specs.Prelude.{◌≡◌, ℕ, ◌+◌, ◌-◌, ◌<◌, ◌≤◌, Bool, None as Nothing, refl};
 ghost use Rattle.serial.specs.Forms.{SoundForm};
 ghost use Rattle.serial.specs.Laws.{Carries, Receives, Returns};
 ghost use Rattle.serial.specs.Lines.{after as after_ticks, tells};
-ghost use Rattle.serial.specs.Receiving.{SoundReceiving, SoundReceiver, SoundEvent, begun, lasting, with_bit, with_parity, past_bit, past_data, past_start, heard, received, outcome, quiet_ticks, lessened, worth};
+ghost use Rattle.serial.specs.Receiving.{SoundReceiving, SoundReceiver, begun, lasting, with_bit, with_parity, past_bit, past_data, past_start, heard, received, outcome, quiet_ticks, worth};
 
 use crate::form::Form;
-use crate::rate::FAR;
+use crate::stage::{Lasting, Stage};
 use std::marker::Model;
 
 /// A frame being received: its form, the data bits gathered so far, the parity bit once sampled, and the ticks to the next sample.
 #[derive(Clone, Copy)]
 pub struct Receiving {
-    pub form: Form,
-    pub character: u8,
-    pub parity: bool,
-    pub left: u32,
+    form: Form,
+    character: u8,
+    parity: bool,
+    left: u32,
 }
 
-/// What the next sample will be.
-#[derive(Clone, Copy)]
-pub enum State {
-    Idle,
-    Start(Receiving),
-    /// The data bit at this place, the lowest at 0.
-    Data(Receiving, u8),
-    Parity(Receiving),
-    Stop(Receiving),
-}
-
+/// The stage tells what the next sample will be.
 #[derive(Clone, Copy)]
 pub struct Receiver {
-    state: State,
+    state: Stage<Receiving>,
 }
 
 impl Model for Receiver {
-    ghost use Rattle.serial.specs.declared.receiver.State.{State};
+    ghost use Rattle.serial.specs.declared.stage.Stage.{Stage};
+    ghost use Rattle.serial.specs.declared.receiver.Receiving.{Receiving};
 
-    ghost Value = { State };
+    ghost Value = { Stage Receiving };
 
     ghost use Rattle.serial.specs.Receiving.{SoundReceiver};
 
@@ -66,11 +57,27 @@ pub enum Reception {
     },
 }
 
+impl Lasting for Receiving {
+    ghost ticks_left = { λ r. r.left };
+
+    ghost with_left = { lasting };
+
+    ghost set = { λ n r. refl };
+
+    fn left(self) -> u32 {
+        self.left
+    }
+
+    fn lasting(self, left: u32) -> Receiving {
+        Receiving { left, ..self }
+    }
+}
+
 impl Receiver {
     pub fn new() -> Receiver
-        ensures { result ≡ State.Idle }
+        ensures { result ≡ Stage.Idle }
     {
-        Receiver { state: State::Idle }
+        Receiver { state: Stage::Idle }
     }
 
     /// Takes an edge or a tick, and tells what was received with it.
@@ -84,18 +91,18 @@ impl Receiver {
     {
         let counts = self.state.horizon() > 0;
         match (self.state, event) {
-            (State::Idle, Event::Fall(form)) => self.state = State::Start(Receiving::begun(form)),
-            (State::Idle, Event::Tick(_)) | (_, Event::Fall(_)) => {}
+            (Stage::Idle, Event::Fall(form)) => self.state = Stage::Start(Receiving::begun(form)),
+            (Stage::Idle, Event::Tick(_)) | (_, Event::Fall(_)) => {}
             (state, Event::Tick(_)) if counts => self.state = state.lessened(1),
-            (State::Start(receiving), Event::Tick(rxd)) => self.state = receiving.past_start(rxd),
-            (State::Data(receiving, place), Event::Tick(rxd)) => {
+            (Stage::Start(receiving), Event::Tick(rxd)) => self.state = receiving.past_start(rxd),
+            (Stage::Data(receiving, place), Event::Tick(rxd)) => {
                 self.state = receiving.with_bit(place, rxd).past_bit(place);
             }
-            (State::Parity(receiving), Event::Tick(rxd)) => {
-                self.state = State::Stop(receiving.with_parity(rxd));
+            (Stage::Parity(receiving), Event::Tick(rxd)) => {
+                self.state = Stage::Stop(receiving.with_parity(rxd));
             }
-            (State::Stop(receiving), Event::Tick(rxd)) => {
-                self.state = State::Idle;
+            (Stage::Stop(receiving), Event::Tick(rxd)) => {
+                self.state = Stage::Idle;
                 return Some(receiving.outcome(rxd));
             }
         }
@@ -104,7 +111,7 @@ impl Receiver {
 
     /// The receiver is turned off: what it has gathered is lost.
     pub fn disable(&mut self)
-        ensures { self.new ≡ State.Idle }
+        ensures { self.new ≡ Stage.Idle }
     {
         *self = Receiver::new();
     }
@@ -126,36 +133,6 @@ impl Receiver {
     }
 }
 
-impl State {
-    fn horizon(&self) -> u64
-        requires { SoundReceiver self.now }
-        ensures { result ≡ quiet_ticks self.now }
-    {
-        match *self {
-            State::Idle => FAR,
-            State::Start(receiving)
-            | State::Data(receiving, _)
-            | State::Parity(receiving)
-            | State::Stop(receiving) => u64::from(receiving.left - 1),
-        }
-    }
-
-    fn lessened(self, ticks: u32) -> State
-        requires sound { SoundReceiver self }
-        requires quiet { ticks ≤ quiet_ticks self }
-        ensures value { result ≡ lessened ticks self }
-        ensures kept { SoundReceiver result }
-    {
-        match self {
-            State::Idle => State::Idle,
-            State::Start(receiving) => State::Start(receiving.less(ticks)),
-            State::Data(receiving, place) => State::Data(receiving.less(ticks), place),
-            State::Parity(receiving) => State::Parity(receiving.less(ticks)),
-            State::Stop(receiving) => State::Stop(receiving.less(ticks)),
-        }
-    }
-}
-
 impl Receiving {
     fn begun(form: Form) -> Receiving
         ensures value { result ≡ begun form }
@@ -169,15 +146,15 @@ impl Receiving {
         }
     }
 
-    fn past_start(self, rxd: bool) -> State
+    fn past_start(self, rxd: bool) -> Stage<Receiving>
         requires { SoundReceiving self 0 }
         ensures value { result ≡ past_start self rxd }
         ensures kept { SoundReceiver result }
     {
         if rxd {
-            State::Idle
+            Stage::Idle
         } else {
-            State::Data(self.lasting(self.form.ticks()), 0)
+            Stage::Data(self.lasting(self.form.ticks()), 0)
         }
     }
 
@@ -204,28 +181,28 @@ impl Receiving {
         }
     }
 
-    fn past_bit(self, place: u8) -> State
+    fn past_bit(self, place: u8) -> Stage<Receiving>
         requires sound { SoundReceiving self (place + 1) }
         requires place { place < self.form.length }
         ensures value { result ≡ past_bit self place }
         ensures kept { SoundReceiver result }
     {
         if place + 1 < self.form.length() {
-            State::Data(self, place + 1)
+            Stage::Data(self, place + 1)
         } else {
             self.past_data()
         }
     }
 
-    fn past_data(self) -> State
+    fn past_data(self) -> Stage<Receiving>
         requires { SoundReceiving self self.form.length }
         ensures value { result ≡ past_data self }
         ensures kept { SoundReceiver result }
     {
         if self.form.has_parity() {
-            State::Parity(self)
+            Stage::Parity(self)
         } else {
-            State::Stop(self)
+            Stage::Stop(self)
         }
     }
 
@@ -241,19 +218,6 @@ impl Receiving {
                 framing_error: !stop,
             }
         }
-    }
-
-    fn less(self, ticks: u32) -> Receiving
-        requires { ticks ≤ self.left }
-        ensures { result ≡ lasting (self.left - ticks) self }
-    {
-        self.lasting(self.left - ticks)
-    }
-
-    fn lasting(self, left: u32) -> Receiving
-        ensures { result ≡ lasting left self }
-    {
-        Receiving { left, ..self }
     }
 }
 

@@ -8,5 +8,5 @@ pub returns : goal.returns
 returns c = λ form cts.
     let t = c.self.inside in
     let quiet = rw (← c.self.view_is) at c.requires in
-    ap (holding t.buffer) c.lessened-self-inside.ensures.value ∙ lessens form cts t.buffer t.phase c.args.ticks c.self.invariant quiet
+    ap (holding t.buffer) c.lessened-self-inside.ensures ∙ lessens form cts t.buffer t.phase c.args.ticks c.self.invariant quiet
     ∙ ap (times c.args.ticks (ticked form cts)) c.self.view_is
