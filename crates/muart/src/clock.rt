@@ -1,7 +1,6 @@
 // One system clock of the stand-in, and many at once.
 ghost use Rattle.std.specs.Prelude.{◌≡◌, ℕ, ◌+◌, ◌*◌, ◌/◌, ◌≤◌, min};
 ghost use Rattle.timing.specs.Run.{times, when};
-ghost use Rattle.muart.specs.Bounds.{Sound};
 ghost use Rattle.muart.specs.Serial.{rate_in};
 ghost use Rattle.muart.specs.Clock.{timer_step, timed, rated, internal_clock, clocked, ticks_in, quiet_rate_ticks, quiet_at_rate, quiet_clocks, Still};
 
@@ -15,9 +14,7 @@ const RATE_MODULUS: u32 = 1_024_000;
 
 impl StandIn {
     fn step_timers(&mut self, on: bool)
-        requires { Sound self.old }
         ensures after { self.new ≡ when on timer_step self.old }
-        ensures sound { Sound self.new }
     {
         if !on {
             return;
@@ -32,9 +29,7 @@ impl StandIn {
     }
 
     fn time(&mut self)
-        requires { Sound self.old }
         ensures after { self.new ≡ timed self.old }
-        ensures sound { Sound self.new }
     {
         let modulus = divide(self.rest.registers.command1);
         let step = self.rest.dividers.steps.advance(1, modulus);
@@ -42,9 +37,7 @@ impl StandIn {
     }
 
     fn rate(&mut self)
-        requires { Sound self.old }
         ensures after { self.new ≡ rated self.old }
-        ensures sound { Sound self.new }
     {
         let step = rate_step(self.rest.registers.command2);
         let tick = self.rest.dividers.remainder.advance(step, RATE_MODULUS);
@@ -52,9 +45,7 @@ impl StandIn {
     }
 
     fn internal_clock(&mut self, on: bool)
-        requires { Sound self.old }
         ensures after { self.new ≡ when on internal_clock self.old }
-        ensures sound { Sound self.new }
     {
         if !on {
             return;
@@ -65,9 +56,7 @@ impl StandIn {
 
     // One system clock.
     pub fn clock(&mut self)
-        requires { Sound self.old }
         ensures after { self.new ≡ clocked self.old }
-        ensures sound { Sound self.new }
     {
         let modulus = prescale(self.rest.registers.command2);
         let ends = self.rest.dividers.prescaler.advance(1, modulus);
@@ -76,7 +65,6 @@ impl StandIn {
 
     // How many internal clocks pass before a rate tick that ends a bit or samples.
     fn horizon_at_rate(&self) -> u64
-        requires { Sound self.now }
         ensures value { result ≡ quiet_at_rate (rate_in self.now) self.now }
         ensures within { (n : ℕ) → n ≤ min 16777216 result → ticks_in n self.now ≤ quiet_rate_ticks self.now }
     {
@@ -94,7 +82,6 @@ impl StandIn {
 
     // How many clocks pass with nothing but counts, dividers and ticks within a bit moving.
     pub fn horizon(&self) -> u64
-        requires { Sound self.now }
         ensures value { result ≡ quiet_clocks self.now }
         ensures still { (n : ℕ) → n ≤ result → Still n self.now }
     {
@@ -116,11 +103,9 @@ impl StandIn {
 
     // Many clocks at once, of which none is past the horizon.
     pub fn skip(&mut self, clocks: u64)
-        requires sound { Sound self.old }
         requires still { Still clocks self.old }
         requires short { clocks ≤ 16777216 }
         ensures after { self.new ≡ times clocks clocked self.old }
-        ensures sound { Sound self.new }
         ensures ticks { (n : ℕ) → ticks_in n self.old ≡ (self.old.rest.dividers.remainder.at + n * rate_in self.old) / 1024000 }
     {
         let modes = timer_modes(&self.rest.registers);

@@ -1,6 +1,5 @@
 // Setting the outside level of a pin.
 ghost use Rattle.std.specs.Prelude.{◌≡◌, ◌<◌, IfOk};
-ghost use Rattle.muart.specs.Bounds.{Sound};
 ghost use Rattle.registers.specs.Ports.{Placed};
 ghost use Rattle.muart.specs.PinCalls.{set_outside, counts_two, counts_three, calls_one, rise as rise_of, fall as fall_of, pin_set, pin_tested};
 
@@ -25,9 +24,7 @@ fn set_outside(pins: &mut Pins, pin: Pin, level: bool)
 
 impl StandIn {
     fn count_two(&mut self)
-        requires { Sound self.old }
         ensures after { self.new ≡ counts_two self.old }
-        ensures sound { Sound self.new }
     {
         let fired = self
             .rest
@@ -42,9 +39,7 @@ impl StandIn {
     }
 
     fn count_three(&mut self)
-        requires { Sound self.old }
         ensures after { self.new ≡ counts_three self.old }
-        ensures sound { Sound self.new }
     {
         let fired = self
             .rest
@@ -59,9 +54,7 @@ impl StandIn {
     }
 
     fn call_one(&mut self)
-        requires { Sound self.old }
         ensures after { self.new ≡ calls_one self.old }
-        ensures sound { Sound self.new }
     {
         let biti = bit(self.rest.registers.command1, 2);
         levels::request_if(
@@ -74,9 +67,7 @@ impl StandIn {
 
     // P12 and P13 count, P17 requests.
     fn rise(&mut self, pin: Pin)
-        requires { Sound self.old }
         ensures after { self.new ≡ rise_of pin self.old }
-        ensures sound { Sound self.new }
     {
         match pin {
             Pin::Port1(2) => self.count_two(),
@@ -88,9 +79,7 @@ impl StandIn {
 
     // P15 triggers timer 5, and CTS lets a character load.
     fn fall(&mut self, pin: Pin)
-        requires { Sound self.old }
         ensures after { self.new ≡ fall_of pin self.old }
-        ensures sound { Sound self.new }
     {
         match pin {
             Pin::Port1(5) => self.rest.timers.trigger(timer_modes(&self.rest.registers)),
@@ -101,10 +90,8 @@ impl StandIn {
 
     // Only a change of the level makes an edge.
     pub fn set_level(&mut self, pin: Pin, level: bool)
-        requires sound { Sound self.old }
         requires placed { Placed pin }
         ensures after { self.new ≡ pin_set pin level self.old }
-        ensures sound { Sound self.new }
     {
         if outside_level(&self.rest.pins, pin) == level {
             return;

@@ -2,7 +2,6 @@
 ghost use Rattle.std.specs.Prelude.{◌≡◌};
 ghost use Rattle.timing.specs.Run.{when};
 ghost use Rattle.serial.specs.Forms.{SoundForm};
-ghost use Rattle.muart.specs.Bounds.{Sound};
 ghost use Rattle.muart.specs.Serial.{form_in, txd_level, transmitter_tick, flags_after, loaded, reception_kept, receiver_tick, serial_tick, rxd_set, sent, cts_fell};
 
 use crate::state::{Flags, StandIn};
@@ -47,16 +46,13 @@ impl StandIn {
     }
 
     pub fn txd(&self) -> bool
-        requires { Sound self.now }
         ensures { result ≡ txd_level self.now }
     {
         self.rest.serial.transmitter.txd()
     }
 
     fn tick_transmitter(&mut self)
-        requires { Sound self.old }
         ensures after { self.new ≡ transmitter_tick self.old }
-        ensures sound { Sound self.new }
     {
         let form = self.form();
         let cts = self.rest.pins.cts;
@@ -70,9 +66,7 @@ impl StandIn {
     }
 
     fn keep_reception(&mut self, reception: Option<Reception>)
-        requires { Sound self.old }
         ensures after { self.new ≡ reception_kept reception self.old }
-        ensures sound { Sound self.new }
     {
         let Some(reception) = reception else {
             return;
@@ -88,9 +82,7 @@ impl StandIn {
     }
 
     fn tick_receiver(&mut self)
-        requires { Sound self.old }
         ensures after { self.new ≡ receiver_tick self.old }
-        ensures sound { Sound self.new }
     {
         let rxd = self.rest.serial.rxd;
         let reception = self.rest.serial.receiver.on(Event::Tick(rxd));
@@ -99,9 +91,7 @@ impl StandIn {
 
     // One rate tick if `on`.
     pub(crate) fn tick_serial(&mut self, on: bool)
-        requires { Sound self.old }
         ensures after { self.new ≡ when on serial_tick self.old }
-        ensures sound { Sound self.new }
     {
         if !on {
             return;
@@ -112,9 +102,7 @@ impl StandIn {
 
     // The partner's level at RxD. A fall may start the receiver.
     pub fn set_rxd(&mut self, level: bool)
-        requires { Sound self.old }
         ensures after { self.new ≡ rxd_set level self.old }
-        ensures sound { Sound self.new }
     {
         let falls = self.rest.serial.rxd && !level && self.rest.registers.control.rxe;
         let form = self.form();
@@ -126,9 +114,7 @@ impl StandIn {
 
     // A character written to the transmit buffer.
     pub(crate) fn send(&mut self, character: u8)
-        requires { Sound self.old }
         ensures after { self.new ≡ sent character self.old }
-        ensures sound { Sound self.new }
     {
         let form = self.form();
         let cts = self.rest.pins.cts;
@@ -143,9 +129,7 @@ impl StandIn {
 
     // CTS fell: a waiting character may load.
     pub(crate) fn release(&mut self)
-        requires { Sound self.old }
         ensures after { self.new ≡ cts_fell self.old }
-        ensures sound { Sound self.new }
     {
         let form = self.form();
         let asks = self.rest.serial.transmitter.release(form);

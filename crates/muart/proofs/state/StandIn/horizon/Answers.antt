@@ -1,9 +1,13 @@
+use Rattle.std.proofs.Common.{◌≡◌, ◌≤◌, sym, subst}
+use Rattle.muart.specs.Clock.{ticks_in, quiet_rate_ticks, quiet_at_rate}
+use Rattle.muart.specs.Serial.{rate_in}
+use Rattle.muart.specs.contracts.state.StandIn.{the_view}
 use Rattle.muart.proofs.Jumping.{Horizon, horizon_value, horizon_still}
 use Rattle.muart.proofs.state.StandIn.horizon.Goals as goal
 use Rattle.muart.proofs.state.StandIn.horizon.Goals.{After-reach}
 
 -- the steps of the code, by name
-way : (c : After-reach) → Horizon c.args.self.now c.reach.result
+way : (c : After-reach) → Horizon (the_view c.self.inside) c.reach.result
 way c = record {
   m = c.timer_modes.result;
   w = c.watched-heeded.result;
@@ -24,8 +28,8 @@ way c = record {
   steps_are = c.min-steps.ensures;
   most_is = c.reach-most.ensures.value;
   most_holds = c.reach-most.ensures.within;
-  rate_is = c.horizon_at_rate.ensures.value;
-  rate_holds = c.horizon_at_rate.ensures.within;
+  rate_is = subst (λ s. c.horizon_at_rate.result ≡ quiet_at_rate (rate_in s) s) (sym c.self.view_is) c.horizon_at_rate.ensures.value;
+  rate_holds = λ n h. subst (λ s. ticks_in n s ≤ quiet_rate_ticks s) (sym c.self.view_is) (c.horizon_at_rate.ensures.within n h);
   least_is = c.min.ensures;
   internals_are = c.min-internals.ensures;
   r_is = c.reach.ensures.value;
@@ -33,4 +37,4 @@ way c = record {
 }
 
 pub returns : goal.returns
-returns c = record { value = horizon_value _ _ (way c); still = horizon_still _ _ (way c) }
+returns c = rw (← c.self.view_is) (record { value = horizon_value _ _ (way c); still = horizon_still _ _ (way c) })
