@@ -10,8 +10,8 @@ use Rattle.serial.specs.declared.receiver.Receiver.{Receiver}
 use Rattle.serial.specs.Sending.{ending, ticked}
 use Rattle.serial.specs.Receiving.{passed, told}
 use Rattle.muart.specs.declared.state.StandIn.{StandIn}
-use Rattle.muart.specs.Firing.{modes_of, watched}
-use Rattle.muart.specs.Serial.{form_in, rate_in, asks, reception_kept, serial_tick}
+use Rattle.muart.specs.Firing.{modes_of, watched, asks}
+use Rattle.muart.specs.Serial.{form_in, rate_in, reception_kept, serial_tick}
 use Rattle.muart.specs.State.{with_timers, with_steps, with_remainder, with_serial, with_transmitter, with_receiver}
 use Rattle.muart.specs.Clock.{timer_step, divide_in, timed, rate_modulus, rated}
 use Rattle.muart.proofs.QuietFiring.{requests_kept, levels_kept}

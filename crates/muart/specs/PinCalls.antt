@@ -9,8 +9,8 @@ use Rattle.registers.specs.declared.pins.Pin.TheVariants.{Port1, Port2, Cts, Ext
 use Rattle.registers.specs.declared.held.Pins.{Pins}
 use Rattle.muart.specs.declared.state.StandIn.{StandIn}
 use Rattle.registers.specs.Ports.{pin_of, is_output, outside}
-use Rattle.muart.specs.Firing.{modes_of, biti_of, request_if}
-use Rattle.muart.specs.State.{with_pins, with_timers, with_requests}
+use Rattle.muart.specs.Firing.{modes_of, biti_of, asks}
+use Rattle.muart.specs.State.{with_pins, with_timers}
 use Rattle.muart.specs.Serial.{cts_fell}
 use Rattle.muart.specs.Clock.{timers_moved}
 
@@ -35,7 +35,7 @@ triggers s = with_timers (triggered (modes_of s.rest.registers) s.rest.timers) s
 
 -- with BITI a rise of P17 requests level 1
 abbrev pub calls_one : StandIn → StandIn
-calls_one s = with_requests (request_if (biti_of s.rest.registers) 1 s.rest.mask s.sensitive.levels.requests) s
+calls_one s = asks (biti_of s.rest.registers) 1 s
 
 -- what a rise of a pin does
 abbrev pub rise : Pin → StandIn → StandIn

@@ -1,10 +1,9 @@
 // One system clock of the stand-in, and many at once.
 ghost use Rattle.std.specs.Prelude.{◌≡◌, ℕ, ◌+◌, ◌*◌, ◌/◌, ◌≤◌, min};
-ghost use Rattle.timing.specs.Run.{times, when};
+ghost use Rattle.timing.specs.Run.{times};
 ghost use Rattle.muart.specs.Serial.{rate_in};
 ghost use Rattle.muart.specs.Clock.{timer_step, timed, rated, internal_clock, clocked, ticks_in, quiet_rate_ticks, quiet_at_rate, quiet_clocks, Still};
 
-use crate::firing::{record_fired, timer_modes, watched};
 use crate::state::StandIn;
 use registers::words::{divide, prescale};
 use serial::rate::rate_step;
@@ -13,54 +12,50 @@ use timers::FAR;
 const RATE_MODULUS: u32 = 1_024_000;
 
 impl StandIn {
-    fn step_timers(&mut self, on: bool)
-        ensures after { self.new ≡ when on timer_step self.old }
+    #[tactic(auto, unfolding(crate::specs::Clock::timer_step))]
+    fn step_timers(&mut self)
+        ensures { self.new ≡ timer_step self.old }
     {
-        if !on {
-            return;
-        }
-        let fired = self.rest.timers.step(timer_modes(&self.rest.registers));
-        record_fired(
-            &self.rest.registers,
-            &mut self.rest.mask,
-            &mut self.sensitive.levels.requests,
-            fired,
-        );
+        let modes = self.timer_modes();
+        let fired = self.rest.timers.step(modes);
+        self.record_fired(fired);
     }
 
     fn time(&mut self)
-        ensures after { self.new ≡ timed self.old }
+        ensures { self.new ≡ timed self.old }
     {
         let modulus = divide(self.rest.registers.command1);
-        let step = self.rest.dividers.steps.advance(1, modulus);
-        self.step_timers(step);
+        if self.rest.dividers.steps.advance(1, modulus) {
+            self.step_timers();
+        }
     }
 
     fn rate(&mut self)
-        ensures after { self.new ≡ rated self.old }
+        ensures { self.new ≡ rated self.old }
     {
         let step = rate_step(self.rest.registers.command2);
-        let tick = self.rest.dividers.remainder.advance(step, RATE_MODULUS);
-        self.tick_serial(tick);
+        if self.rest.dividers.remainder.advance(step, RATE_MODULUS) {
+            self.tick_serial();
+        }
     }
 
-    fn internal_clock(&mut self, on: bool)
-        ensures after { self.new ≡ when on internal_clock self.old }
+    #[tactic(auto, unfolding(crate::specs::Clock::internal_clock))]
+    fn internal_clock(&mut self)
+        ensures { self.new ≡ internal_clock self.old }
     {
-        if !on {
-            return;
-        }
         self.time();
         self.rate();
     }
 
     // One system clock.
+    #[tactic(auto, unfolding(crate::specs::Clock::clocked))]
     pub fn clock(&mut self)
         ensures after { self.new ≡ clocked self.old }
     {
         let modulus = prescale(self.rest.registers.command2);
-        let ends = self.rest.dividers.prescaler.advance(1, modulus);
-        self.internal_clock(ends);
+        if self.rest.dividers.prescaler.advance(1, modulus) {
+            self.internal_clock();
+        }
     }
 
     // How many internal clocks pass before a rate tick that ends a bit or samples.
@@ -86,8 +81,7 @@ impl StandIn {
         ensures still { (n : ℕ) → n ≤ result → Still n self.now }
     {
         let registers = &self.rest.registers;
-        let heeded = watched(registers, &self.rest.mask, &self.sensitive.levels.requests);
-        let fires = self.rest.timers.horizon(timer_modes(registers), heeded);
+        let fires = self.rest.timers.horizon(self.timer_modes(), self.watched());
         let steps = FAR.min(fires);
         let most = self
             .rest
@@ -108,7 +102,7 @@ impl StandIn {
         ensures after { self.new ≡ times clocks clocked self.old }
         ensures ticks { (n : ℕ) → ticks_in n self.old ≡ (self.old.rest.dividers.remainder.at + n * rate_in self.old) / 1024000 }
     {
-        let modes = timer_modes(&self.rest.registers);
+        let modes = self.timer_modes();
         let prescaler = prescale(self.rest.registers.command2);
         let divider = divide(self.rest.registers.command1);
         let internals = self.rest.dividers.prescaler.skip(clocks, 1, prescaler);

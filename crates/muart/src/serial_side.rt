@@ -1,6 +1,5 @@
 // The serial side within the stand-in.
 ghost use Rattle.std.specs.Prelude.{◌≡◌};
-ghost use Rattle.timing.specs.Run.{when};
 ghost use Rattle.serial.specs.Forms.{SoundForm};
 ghost use Rattle.muart.specs.Serial.{form_in, txd_level, transmitter_tick, flags_after, loaded, reception_kept, receiver_tick, serial_tick, rxd_set, sent, cts_fell};
 
@@ -57,12 +56,7 @@ impl StandIn {
         let form = self.form();
         let cts = self.rest.pins.cts;
         let asks = self.rest.serial.transmitter.tick(form, cts);
-        levels::request_if(
-            &mut self.sensitive.levels.requests,
-            &self.rest.mask,
-            5,
-            asks,
-        );
+        self.request(5, asks);
     }
 
     fn keep_reception(&mut self, reception: Option<Reception>)
@@ -73,12 +67,7 @@ impl StandIn {
         };
         self.rest.serial.received = loaded_after(self.rest.serial.received, reception);
         self.sensitive.flags = flags_after(self.sensitive.flags, reception);
-        levels::request_if(
-            &mut self.sensitive.levels.requests,
-            &self.rest.mask,
-            4,
-            true,
-        );
+        self.request(4, true);
     }
 
     fn tick_receiver(&mut self)
@@ -89,13 +78,11 @@ impl StandIn {
         self.keep_reception(reception);
     }
 
-    // One rate tick if `on`.
-    pub(crate) fn tick_serial(&mut self, on: bool)
-        ensures after { self.new ≡ when on serial_tick self.old }
+    // One rate tick.
+    #[tactic(auto, unfolding(crate::specs::Serial::serial_tick))]
+    pub(crate) fn tick_serial(&mut self)
+        ensures { self.new ≡ serial_tick self.old }
     {
-        if !on {
-            return;
-        }
         self.tick_transmitter();
         self.tick_receiver();
     }
@@ -119,12 +106,7 @@ impl StandIn {
         let form = self.form();
         let cts = self.rest.pins.cts;
         let asks = self.rest.serial.transmitter.write(character, form, cts);
-        levels::request_if(
-            &mut self.sensitive.levels.requests,
-            &self.rest.mask,
-            5,
-            asks,
-        );
+        self.request(5, asks);
     }
 
     // CTS fell: a waiting character may load.
@@ -133,11 +115,6 @@ impl StandIn {
     {
         let form = self.form();
         let asks = self.rest.serial.transmitter.release(form);
-        levels::request_if(
-            &mut self.sensitive.levels.requests,
-            &self.rest.mask,
-            5,
-            asks,
-        );
+        self.request(5, asks);
     }
 }

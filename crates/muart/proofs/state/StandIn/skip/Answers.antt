@@ -1,3 +1,5 @@
+use Rattle.std.proofs.Common.{sym, ap, ◌∙◌}
+use Rattle.muart.specs.Firing.{modes_of}
 use Rattle.muart.specs.contracts.state.StandIn.{the_view}
 use Rattle.muart.proofs.Jumping.{skip_lands}
 use Rattle.muart.proofs.Ticks.{tick_quotient}
@@ -17,7 +19,7 @@ returns c = rw (← c.self.view_is) (record {
         prescale_is = c.prescale-prescaler.ensures.value;
         divide_is = c.divide-divider.ensures.value;
         rate_is = c.rate_step-rate.ensures.value;
-        modes_are = c.timer_modes-modes.ensures;
+        modes_are = c.timer_modes-modes.ensures ∙ ap (λ s. modes_of s.rest.registers) (sym c.self.view_is);
         internals = c.skip-internals.ensures.wrapped;
         steps = c.skip-steps.ensures.wrapped;
         ticks = c.skip-ticks.ensures.wrapped;
