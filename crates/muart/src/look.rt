@@ -3,7 +3,7 @@ ghost use Rattle.std.specs.Prelude.{◌≡◌, length};
 ghost use Rattle.muart.specs.Looks.{look_answer, look_writes};
 
 use crate::read::read;
-use crate::state::{Rest, Sensitive};
+use crate::state::{Rest, Sensitive, StandIn};
 use registers::refusal::Refusal;
 use registers::register::Register;
 
@@ -48,4 +48,14 @@ pub fn look(
         place[at] = read(rest, guard.held, register).byte;
     }
     Ok(())
+}
+
+impl StandIn {
+    pub fn look(&mut self, registers: &[u8], place: &mut [u8]) -> Result<(), Refusal>
+        ensures answer { result ≡ look_answer registers.now (length place.old) }
+        ensures same { self.new ≡ self.old }
+        ensures wrote { place.new ≡ look_writes registers.now self.old.rest self.old.sensitive place.old }
+    {
+        look(&self.rest, &mut self.sensitive, registers, place)
+    }
 }

@@ -68,9 +68,7 @@ impl StandIn {
         ensures answer { result ≡ pin_tested code self.now }
         ensures within { IfOk result Placed }
     {
-        let Some(pin) = Pin::coded(code) else {
-            return Err(Refusal::NoSuchPin);
-        };
+        let pin = Pin::coded(code).ok_or(Refusal::NoSuchPin)?;
         if drives(&self.rest.registers, pin) {
             return Err(Refusal::OutputPin);
         }

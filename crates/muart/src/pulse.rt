@@ -2,7 +2,6 @@
 ghost use Rattle.std.specs.Prelude.{◌≡◌, ◌<◌, true, IfOk};
 ghost use Rattle.muart.specs.Pulses.{pulse_level, pulsed, single_answer, single_level, first_answer, first_level, begins, second_answer, second_leaves};
 
-use crate::read::interrupts;
 use crate::state::StandIn;
 use registers::refusal::Refusal;
 use registers::words::Family;
@@ -44,25 +43,22 @@ impl StandIn {
         if !self.rest.registers.control.iae {
             return Err(Refusal::AcknowledgeDisabled);
         }
-        if !family.is(Family::selected(self.rest.registers.command1)) {
+        if !family.is(self.family()) {
             return Err(Refusal::WrongFamily);
         }
-        if !interrupts(&self.rest, &self.sensitive) {
+        if !self.interrupts() {
             return Err(Refusal::InterruptLow);
         }
         if self.rest.begun.is_some() {
             return Err(Refusal::AlreadyBegun);
         }
-        let taken = levels::take(
+        levels::take(
             &mut self.sensitive.levels,
             &self.rest.mask,
             self.rest.pins.extint,
             self.rest.registers.control.nie,
-        );
-        match taken {
-            Some(level) => Ok(level),
-            None => Err(Refusal::InterruptLow),
-        }
+        )
+        .ok_or(Refusal::InterruptLow)
     }
 
     // The single pulse of the 8085 family.
@@ -98,9 +94,7 @@ impl StandIn {
         ensures after { self.new ≡ second_leaves self.old }
     {
         half.spent = true;
-        match self.rest.begun.take() {
-            Some(level) => Ok(64 + level),
-            None => Err(Refusal::NoneBegun),
-        }
+        let level = self.rest.begun.take().ok_or(Refusal::NoneBegun)?;
+        Ok(64 + level)
     }
 }

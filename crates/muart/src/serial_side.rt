@@ -1,39 +1,11 @@
 // The serial side within the stand-in.
-ghost use Rattle.std.specs.Prelude.{◌≡◌};
+ghost use Rattle.std.specs.Prelude.{◌≡◌, Some};
 ghost use Rattle.serial.specs.Forms.{SoundForm};
-ghost use Rattle.muart.specs.Serial.{form_in, txd_level, transmitter_tick, flags_after, loaded, reception_kept, receiver_tick, serial_tick, rxd_set, sent, cts_fell};
+ghost use Rattle.muart.specs.Serial.{form_in, txd_level, transmitter_tick, reception_kept, receiver_tick, serial_tick, rxd_set, sent, cts_fell};
 
-use crate::state::{Flags, StandIn};
+use crate::state::StandIn;
 use serial::form::Form;
 use serial::receiver::{Event, Reception};
-
-fn flags_after(flags: Flags, reception: Reception) -> Flags
-    ensures { result ≡ flags_after reception flags }
-{
-    match reception {
-        Reception::Break => Flags { bd: true, ..flags },
-        Reception::Character {
-            character: _,
-            parity_error,
-            framing_error,
-        } => Flags {
-            rbf: true,
-            bd: flags.bd,
-            pe: flags.pe || parity_error,
-            oe: flags.oe || flags.rbf,
-            fe: flags.fe || framing_error,
-        },
-    }
-}
-
-fn loaded_after(held: u8, reception: Reception) -> u8
-    ensures { result ≡ loaded reception held }
-{
-    match reception {
-        Reception::Break => held,
-        Reception::Character { character, .. } => character,
-    }
-}
 
 impl StandIn {
     // The form that commands 1 and 2 give now.
@@ -59,23 +31,34 @@ impl StandIn {
         self.request(5, asks);
     }
 
-    fn keep_reception(&mut self, reception: Option<Reception>)
-        ensures after { self.new ≡ reception_kept reception self.old }
+    fn keep(&mut self, reception: Reception)
+        ensures { self.new ≡ reception_kept (Some reception) self.old }
     {
-        let Some(reception) = reception else {
-            return;
-        };
-        self.rest.serial.received = loaded_after(self.rest.serial.received, reception);
-        self.sensitive.flags = flags_after(self.sensitive.flags, reception);
+        let flags = &mut self.sensitive.flags;
+        match reception {
+            Reception::Break => flags.bd = true,
+            Reception::Character {
+                character,
+                parity_error,
+                framing_error,
+            } => {
+                flags.pe |= parity_error;
+                flags.oe |= flags.rbf;
+                flags.fe |= framing_error;
+                flags.rbf = true;
+                self.rest.serial.received = character;
+            }
+        }
         self.request(4, true);
     }
 
     fn tick_receiver(&mut self)
-        ensures after { self.new ≡ receiver_tick self.old }
+        ensures { self.new ≡ receiver_tick self.old }
     {
         let rxd = self.rest.serial.rxd;
-        let reception = self.rest.serial.receiver.on(Event::Tick(rxd));
-        self.keep_reception(reception);
+        if let Some(reception) = self.rest.serial.receiver.on(Event::Tick(rxd)) {
+            self.keep(reception);
+        }
     }
 
     // One rate tick.

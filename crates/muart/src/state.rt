@@ -25,7 +25,7 @@ pub struct Serial {
 }
 
 // The receiver's five flags: receive buffer full, break detected, parity error, overrun error, framing error.
-#[derive(Clone, Copy)]
+#[derive(Clone, Copy, Default)]
 pub struct Flags {
     pub rbf: bool,
     pub bd: bool,
