@@ -16,10 +16,10 @@ use Rattle.muart.specs.Clock.{timers_moved}
 
 -- the outside levels with one pin's set
 abbrev pub set_outside : Pin → Bool → Pins → Pins
-set_outside (Port1 n) v p = record { port1 = slice_set p.port1 n v; port2 = p.port2; cts = p.cts; extint = p.extint }
-set_outside (Port2 n) v p = record { port1 = p.port1; port2 = slice_set p.port2 n v; cts = p.cts; extint = p.extint }
-set_outside Cts v p = record { port1 = p.port1; port2 = p.port2; cts = v; extint = p.extint }
-set_outside Extint v p = record { port1 = p.port1; port2 = p.port2; cts = p.cts; extint = v }
+set_outside (Port1 n) v p = record p { port1 = slice_set p.port1 n v }
+set_outside (Port2 n) v p = record p { port2 = slice_set p.port2 n v }
+set_outside Cts v p = record p { cts = v }
+set_outside Extint v p = record p { extint = v }
 
 -- with CT2 a rise of P12 steps timer 2, or its pair
 abbrev pub counts_two : StandIn → StandIn

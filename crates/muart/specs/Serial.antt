@@ -31,8 +31,8 @@ transmitter_tick s = asks (ending s.rest.serial.transmitter.phase) 5 (with_trans
 
 -- a break sets BD alone; a character sets RBF, OE if RBF was set, PE on wrong parity and FE on a low stop
 abbrev pub flags_after : Reception → Flags → Flags
-flags_after Break f = record { rbf = f.rbf; bd = true; pe = f.pe; oe = f.oe; fe = f.fe }
-flags_after (Character c wrong low) f = record { rbf = true; bd = f.bd; pe = f.pe || wrong; oe = f.oe || f.rbf; fe = f.fe || low }
+flags_after Break f = record f { bd = true }
+flags_after (Character c wrong low) f = record f { rbf = true; pe = f.pe || wrong; oe = f.oe || f.rbf; fe = f.fe || low }
 
 -- a break loads nothing
 abbrev pub loaded : Reception → ℕ → ℕ
