@@ -41,6 +41,7 @@ pub fn look(
         held: sensitive,
         saved,
     };
+    // Tried without `at`, by a zip with `iter_mut`: the proof did not close, since it knows nothing of what such a zip wrote.
     for (at, number) in registers.iter().enumerate() {
         let Some(register) = Register::numbered(*number) else {
             return Err(Refusal::NoSuchRegister);

@@ -103,13 +103,7 @@ impl StandIn {
                     requests: [false; 8],
                     service: [false; 8],
                 },
-                flags: Flags {
-                    rbf: false,
-                    bd: false,
-                    pe: false,
-                    oe: false,
-                    fe: false,
-                },
+                flags: Flags::default(),
             },
         }
     }
@@ -140,7 +134,7 @@ impl StandIn {
         ensures after { self.new ≡ commanded3 word self.old }
     {
         if bit(word, 7) && bit(word, 0) {
-            *self = StandIn::cleared(self.rest.pins, self.rest.serial.rxd);
+            let _ = self.reset();
             return;
         }
         serve_word(&mut self.sensitive.levels.service, word);
