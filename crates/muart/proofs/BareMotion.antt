@@ -10,9 +10,9 @@ use Rattle.serial.specs.declared.receiver.Receiver.{Receiver}
 use Rattle.serial.specs.Sending.{ending, ticked}
 use Rattle.serial.specs.Receiving.{passed, told}
 use Rattle.muart.specs.declared.state.StandIn.{StandIn}
-use Rattle.muart.specs.Firing.{modes_of, watched}
-use Rattle.muart.specs.Serial.{form_in, rate_in, asks, reception_kept, serial_tick}
-use Rattle.muart.specs.State.{with_timers, with_steps, with_remainder, with_serial, with_transmitter, with_receiver}
+use Rattle.muart.specs.Firing.{modes_of, watched, asks}
+use Rattle.muart.specs.Serial.{form_in, rate_in, reception_kept, serial_tick}
+use Rattle.muart.specs.State.{with_timers, with_mask, with_requests, with_steps, with_remainder, with_serial, with_transmitter, with_receiver}
 use Rattle.muart.specs.Clock.{timer_step, divide_in, timed, rate_modulus, rated}
 use Rattle.muart.proofs.QuietFiring.{requests_kept, levels_kept}
 
@@ -22,7 +22,7 @@ timer_bare s = with_timers (stepped (modes_of s.rest.registers) s.rest.timers) s
 
 -- a transmitter and a receiver in the place of those that stand there
 abbrev pub with_both : Transmitter → Receiver → StandIn → StandIn
-with_both t r s = with_serial (record { transmitter = t; receiver = r; received = s.rest.serial.received; rxd = s.rest.serial.rxd }) s
+with_both t r s = with_serial (record s.rest.serial { transmitter = t; receiver = r }) s
 
 -- the transmitter and the receiver tick
 abbrev pub serial_bare : StandIn → StandIn
@@ -43,10 +43,9 @@ pub step_quiet : (s : StandIn) → Quiet (firing (modes_of s.rest.registers) s.r
 unfolding timer_step
 step_quiet s q =
     let f = firing (modes_of s.rest.registers) s.rest.timers in
-    λ i. record {
-      rest = record { registers = s.rest.registers; pins = s.rest.pins; mask = levels_kept s.rest.registers f s.rest.mask s.sensitive.levels.requests q i; begun = s.rest.begun; timers = stepped (modes_of s.rest.registers) s.rest.timers; dividers = s.rest.dividers; serial = s.rest.serial };
-      sensitive = record { levels = record { requests = requests_kept s.rest.registers f s.rest.mask s.sensitive.levels.requests q i; service = s.sensitive.levels.service }; flags = s.sensitive.flags };
-    }
+    λ i. with_timers (stepped (modes_of s.rest.registers) s.rest.timers)
+        (with_mask (levels_kept s.rest.registers f s.rest.mask s.sensitive.levels.requests q i)
+        (with_requests (requests_kept s.rest.registers f s.rest.mask s.sensitive.levels.requests q i) s))
 
 -- a rate tick that records nothing
 pub tick_quiet : (s : StandIn) → ending s.rest.serial.transmitter.phase ≡ false → told s.rest.serial.rxd s.rest.serial.receiver ≡ None → serial_tick s ≡ serial_bare s

@@ -1,4 +1,5 @@
 mod Looking
+mod Weighing
 pub mod QuietFiring
 pub mod BareMotion
 pub mod Jumping

@@ -8,17 +8,15 @@ use Rattle.timers.specs.Stepping.{stepped, firing, quiet_for, Quiet}
 use Rattle.timers.specs.Counts.{far}
 use Rattle.muart.specs.declared.state.StandIn.{StandIn}
 use Rattle.registers.specs.Words.{prescale_of, divide_of}
-use Rattle.muart.specs.Firing.{modes_of, fired_requests, fired_mask, watched}
+use Rattle.muart.specs.Firing.{modes_of, recorded, watched}
 use Rattle.muart.specs.Serial.{rate_in, serial_tick}
-use Rattle.muart.specs.State.{with_timers, with_mask, with_requests, with_prescaler, with_steps, with_remainder}
+use Rattle.muart.specs.State.{with_timers, with_prescaler, with_steps, with_remainder}
 use Rattle.serial.specs.Sending.{quiet_ticks as sending_ticks}
 use Rattle.serial.specs.Receiving.{quiet_ticks as receiving_ticks}
 
 -- the timers moved, and those that fired request and disable
 abbrev pub timers_moved : Timers → Fired → StandIn → StandIn
-timers_moved t f s =
-    with_timers t (with_mask (fired_mask s.rest.registers f s.rest.mask)
-    (with_requests (fired_requests s.rest.registers f s.rest.mask s.sensitive.levels.requests) s))
+timers_moved t f s = recorded f (with_timers t s)
 
 -- one timer step
 unfoldable pub timer_step : StandIn → StandIn

@@ -5,6 +5,8 @@ use Rattle.timers.specs.declared.modes.TimerModes.{TimerModes}
 use Rattle.timers.specs.declared.modes.Fired.{Fired}
 use Rattle.registers.specs.declared.held.Registers.{Registers}
 use Rattle.registers.specs.Words.{bit_of}
+use Rattle.muart.specs.declared.state.StandIn.{StandIn}
+use Rattle.muart.specs.State.{with_mask, with_requests}
 
 -- mode bits 7 T35, 6 T24, 5 T5C, 4 CT3, 3 CT2
 abbrev pub modes_of : Registers → TimerModes
@@ -17,6 +19,9 @@ biti_of g = bit_of 2 g.command1
 -- a level requests if so told
 abbrev pub request_if : Bool → ℕ → List Bool → List Bool → List Bool
 request_if on level mask requests = cond on (request level mask requests) requests
+
+abbrev pub asks : Bool → ℕ → StandIn → StandIn
+asks on l s = with_requests (request_if on l s.rest.mask s.sensitive.levels.requests) s
 
 -- level 0 is timer 1; 1 timer 2, with BITI 0; 3 timer 3 or its pair; 6 timer 4 or its pair; 7 timer 5
 abbrev pub fired_requests : Registers → Fired → List Bool → List Bool → List Bool
@@ -34,6 +39,12 @@ disables m f = m.t5c && cond m.t35 f.three f.five
 
 abbrev pub fired_mask : Registers → Fired → List Bool → List Bool
 fired_mask g f mask = cond (disables (modes_of g) f) (slice_set mask (own_level (modes_of g)) false) mask
+
+-- what the timers that fired do: their levels request, and one may be disabled
+abbrev pub recorded : Fired → StandIn → StandIn
+recorded f s =
+    with_mask (fired_mask s.rest.registers f s.rest.mask)
+    (with_requests (fired_requests s.rest.registers f s.rest.mask s.sensitive.levels.requests) s)
 
 -- a level whose request would be new
 abbrev pub unasked : ℕ → List Bool → List Bool → Bool

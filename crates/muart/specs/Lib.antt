@@ -1,5 +1,6 @@
 pub mod Reading
 pub mod Looks
+pub mod Parts
 pub mod State
 pub mod Bounds
 pub mod Pulses

@@ -9,17 +9,17 @@ use Rattle.registers.specs.declared.pins.Pin.TheVariants.{Port1, Port2, Cts, Ext
 use Rattle.registers.specs.declared.held.Pins.{Pins}
 use Rattle.muart.specs.declared.state.StandIn.{StandIn}
 use Rattle.registers.specs.Ports.{pin_of, is_output, outside}
-use Rattle.muart.specs.Firing.{modes_of, biti_of, request_if}
-use Rattle.muart.specs.State.{with_pins, with_timers, with_requests}
+use Rattle.muart.specs.Firing.{modes_of, biti_of, asks}
+use Rattle.muart.specs.State.{with_pins, with_timers}
 use Rattle.muart.specs.Serial.{cts_fell}
 use Rattle.muart.specs.Clock.{timers_moved}
 
 -- the outside levels with one pin's set
 abbrev pub set_outside : Pin → Bool → Pins → Pins
-set_outside (Port1 n) v p = record { port1 = slice_set p.port1 n v; port2 = p.port2; cts = p.cts; extint = p.extint }
-set_outside (Port2 n) v p = record { port1 = p.port1; port2 = slice_set p.port2 n v; cts = p.cts; extint = p.extint }
-set_outside Cts v p = record { port1 = p.port1; port2 = p.port2; cts = v; extint = p.extint }
-set_outside Extint v p = record { port1 = p.port1; port2 = p.port2; cts = p.cts; extint = v }
+set_outside (Port1 n) v p = record p { port1 = slice_set p.port1 n v }
+set_outside (Port2 n) v p = record p { port2 = slice_set p.port2 n v }
+set_outside Cts v p = record p { cts = v }
+set_outside Extint v p = record p { extint = v }
 
 -- with CT2 a rise of P12 steps timer 2, or its pair
 abbrev pub counts_two : StandIn → StandIn
@@ -35,7 +35,7 @@ triggers s = with_timers (triggered (modes_of s.rest.registers) s.rest.timers) s
 
 -- with BITI a rise of P17 requests level 1
 abbrev pub calls_one : StandIn → StandIn
-calls_one s = with_requests (request_if (biti_of s.rest.registers) 1 s.rest.mask s.sensitive.levels.requests) s
+calls_one s = asks (biti_of s.rest.registers) 1 s
 
 -- what a rise of a pin does
 abbrev pub rise : Pin → StandIn → StandIn

@@ -80,7 +80,7 @@ reading g r s = record { byte = read_byte g r s; taken = read_takes g r s }
 
 -- taking the ready level
 abbrev pub took : Rest → Sensitive → Sensitive
-took r s = record { levels = taken (ready_level r s) s.levels r.registers.control.nie; flags = s.flags }
+took r s = record s { levels = taken (ready_level r s) s.levels r.registers.control.nie }
 
 -- reading the interrupt address takes, reading the buffer clears RBF, reading the status clears BD, PE, OE and FE
 abbrev pub read_leaves : Register → Rest → Sensitive → Sensitive
@@ -91,7 +91,7 @@ read_leaves Mode r s = s
 read_leaves Port1Control r s = s
 read_leaves Mask r s = s
 read_leaves InterruptAddress r s = took r s
-read_leaves Buffer r s = record { levels = s.levels; flags = record { rbf = false; bd = s.flags.bd; pe = s.flags.pe; oe = s.flags.oe; fe = s.flags.fe } }
+read_leaves Buffer r s = record s { flags = record s.flags { rbf = false } }
 read_leaves (Pins port) r s = s
 read_leaves (Timer n) r s = s
-read_leaves Status r s = record { levels = s.levels; flags = record { rbf = s.flags.rbf; bd = false; pe = false; oe = false; fe = false } }
+read_leaves Status r s = record s { flags = record s.flags { bd = false; pe = false; oe = false; fe = false } }

@@ -10,8 +10,8 @@ use Rattle.serial.specs.Sending.{level, ending, ticked, written, released, idle}
 use Rattle.serial.specs.Receiving.{passed, fallen, told}
 use Rattle.muart.specs.declared.state.Flags.{Flags}
 use Rattle.muart.specs.declared.state.StandIn.{StandIn}
-use Rattle.muart.specs.Firing.{request_if}
-use Rattle.muart.specs.State.{with_requests, with_flags, with_transmitter, with_receiver, with_received, with_rxd}
+use Rattle.muart.specs.Firing.{asks}
+use Rattle.muart.specs.State.{with_flags, with_transmitter, with_receiver, with_received, with_rxd}
 
 -- the form that commands 1 and 2 give now
 abbrev pub form_in : StandIn → Form
@@ -25,18 +25,14 @@ rate_in s = rate_step s.rest.registers.command2
 abbrev pub txd_level : StandIn → Bool
 txd_level s = level s.rest.serial.transmitter.phase
 
--- a level requests if so told
-abbrev pub asks : Bool → ℕ → StandIn → StandIn
-asks on l s = with_requests (request_if on l s.rest.mask s.sensitive.levels.requests) s
-
 -- the transmitter's tick: a frame's end requests level 5
 abbrev pub transmitter_tick : StandIn → StandIn
 transmitter_tick s = asks (ending s.rest.serial.transmitter.phase) 5 (with_transmitter (ticked (form_in s) s.rest.pins.cts s.rest.serial.transmitter) s)
 
 -- a break sets BD alone; a character sets RBF, OE if RBF was set, PE on wrong parity and FE on a low stop
 abbrev pub flags_after : Reception → Flags → Flags
-flags_after Break f = record { rbf = f.rbf; bd = true; pe = f.pe; oe = f.oe; fe = f.fe }
-flags_after (Character c wrong low) f = record { rbf = true; bd = f.bd; pe = f.pe || wrong; oe = f.oe || f.rbf; fe = f.fe || low }
+flags_after Break f = record f { bd = true }
+flags_after (Character c wrong low) f = record f { rbf = true; pe = f.pe || wrong; oe = f.oe || f.rbf; fe = f.fe || low }
 
 -- a break loads nothing
 abbrev pub loaded : Reception → ℕ → ℕ

@@ -13,58 +13,58 @@ use Rattle.muart.specs.declared.state.Rest.{Rest}
 use Rattle.muart.specs.declared.state.StandIn.{StandIn}
 
 abbrev pub with_rest : Rest → StandIn → StandIn
-with_rest r s = record { rest = r; sensitive = s.sensitive }
+with_rest r s = record s { rest = r }
 
 abbrev pub with_sensitive : Sensitive → StandIn → StandIn
-with_sensitive v s = record { rest = s.rest; sensitive = v }
+with_sensitive v s = record s { sensitive = v }
 
 abbrev pub with_registers : Registers → StandIn → StandIn
-with_registers g s = with_rest (record { registers = g; pins = s.rest.pins; mask = s.rest.mask; begun = s.rest.begun; timers = s.rest.timers; dividers = s.rest.dividers; serial = s.rest.serial }) s
+with_registers g s = with_rest (record s.rest { registers = g }) s
 
 abbrev pub with_pins : Pins → StandIn → StandIn
-with_pins p s = with_rest (record { registers = s.rest.registers; pins = p; mask = s.rest.mask; begun = s.rest.begun; timers = s.rest.timers; dividers = s.rest.dividers; serial = s.rest.serial }) s
+with_pins p s = with_rest (record s.rest { pins = p }) s
 
 abbrev pub with_mask : List Bool → StandIn → StandIn
-with_mask m s = with_rest (record { registers = s.rest.registers; pins = s.rest.pins; mask = m; begun = s.rest.begun; timers = s.rest.timers; dividers = s.rest.dividers; serial = s.rest.serial }) s
+with_mask m s = with_rest (record s.rest { mask = m }) s
 
 abbrev pub with_begun : Option ℕ → StandIn → StandIn
-with_begun b s = with_rest (record { registers = s.rest.registers; pins = s.rest.pins; mask = s.rest.mask; begun = b; timers = s.rest.timers; dividers = s.rest.dividers; serial = s.rest.serial }) s
+with_begun b s = with_rest (record s.rest { begun = b }) s
 
 abbrev pub with_timers : Timers → StandIn → StandIn
-with_timers t s = with_rest (record { registers = s.rest.registers; pins = s.rest.pins; mask = s.rest.mask; begun = s.rest.begun; timers = t; dividers = s.rest.dividers; serial = s.rest.serial }) s
+with_timers t s = with_rest (record s.rest { timers = t }) s
 
 abbrev pub with_dividers : Dividers → StandIn → StandIn
-with_dividers d s = with_rest (record { registers = s.rest.registers; pins = s.rest.pins; mask = s.rest.mask; begun = s.rest.begun; timers = s.rest.timers; dividers = d; serial = s.rest.serial }) s
+with_dividers d s = with_rest (record s.rest { dividers = d }) s
 
 abbrev pub with_prescaler : ℕ → StandIn → StandIn
-with_prescaler n s = with_dividers (record { prescaler = record { at = n }; steps = s.rest.dividers.steps; remainder = s.rest.dividers.remainder }) s
+with_prescaler n s = with_dividers (record s.rest.dividers { prescaler = record { at = n } }) s
 
 abbrev pub with_steps : ℕ → StandIn → StandIn
-with_steps n s = with_dividers (record { prescaler = s.rest.dividers.prescaler; steps = record { at = n }; remainder = s.rest.dividers.remainder }) s
+with_steps n s = with_dividers (record s.rest.dividers { steps = record { at = n } }) s
 
 abbrev pub with_remainder : ℕ → StandIn → StandIn
-with_remainder n s = with_dividers (record { prescaler = s.rest.dividers.prescaler; steps = s.rest.dividers.steps; remainder = record { at = n } }) s
+with_remainder n s = with_dividers (record s.rest.dividers { remainder = record { at = n } }) s
 
 abbrev pub with_serial : Serial → StandIn → StandIn
-with_serial x s = with_rest (record { registers = s.rest.registers; pins = s.rest.pins; mask = s.rest.mask; begun = s.rest.begun; timers = s.rest.timers; dividers = s.rest.dividers; serial = x }) s
+with_serial x s = with_rest (record s.rest { serial = x }) s
 
 abbrev pub with_transmitter : Transmitter → StandIn → StandIn
-with_transmitter t s = with_serial (record { transmitter = t; receiver = s.rest.serial.receiver; received = s.rest.serial.received; rxd = s.rest.serial.rxd }) s
+with_transmitter t s = with_serial (record s.rest.serial { transmitter = t }) s
 
 abbrev pub with_receiver : Receiver → StandIn → StandIn
-with_receiver r s = with_serial (record { transmitter = s.rest.serial.transmitter; receiver = r; received = s.rest.serial.received; rxd = s.rest.serial.rxd }) s
+with_receiver r s = with_serial (record s.rest.serial { receiver = r }) s
 
 abbrev pub with_received : ℕ → StandIn → StandIn
-with_received c s = with_serial (record { transmitter = s.rest.serial.transmitter; receiver = s.rest.serial.receiver; received = c; rxd = s.rest.serial.rxd }) s
+with_received c s = with_serial (record s.rest.serial { received = c }) s
 
 abbrev pub with_rxd : Bool → StandIn → StandIn
-with_rxd v s = with_serial (record { transmitter = s.rest.serial.transmitter; receiver = s.rest.serial.receiver; received = s.rest.serial.received; rxd = v }) s
+with_rxd v s = with_serial (record s.rest.serial { rxd = v }) s
 
 abbrev pub with_flags : Flags → StandIn → StandIn
-with_flags f s = with_sensitive (record { levels = s.sensitive.levels; flags = f }) s
+with_flags f s = with_sensitive (record s.sensitive { flags = f }) s
 
 abbrev pub with_requests : List Bool → StandIn → StandIn
-with_requests q s = with_sensitive (record { levels = record { requests = q; service = s.sensitive.levels.service }; flags = s.sensitive.flags }) s
+with_requests q s = with_sensitive (record s.sensitive { levels = record s.sensitive.levels { requests = q } }) s
 
 abbrev pub with_service : List Bool → StandIn → StandIn
-with_service v s = with_sensitive (record { levels = record { requests = s.sensitive.levels.requests; service = v }; flags = s.sensitive.flags }) s
+with_service v s = with_sensitive (record s.sensitive { levels = record s.sensitive.levels { service = v } }) s

@@ -75,7 +75,7 @@ abbrev pub controlled : ℕ → Control → Control
 controlled w c = record { rxe = chosen 6 w c.rxe; iae = chosen 5 w c.iae; nie = chosen 4 w c.nie }
 
 abbrev pub with_control : Control → StandIn → StandIn
-with_control c s = with_registers (record { command1 = s.rest.registers.command1; command2 = s.rest.registers.command2; control = c; mode = s.rest.registers.mode; direction1 = s.rest.registers.direction1; latch1 = s.rest.registers.latch1; latch2 = s.rest.registers.latch2 }) s
+with_control c s = with_registers (record s.rest.registers { control = c }) s
 
 -- a word that clears NIE
 abbrev pub clears_nie : ℕ → Bool
@@ -100,23 +100,23 @@ commanded3 w s =
 
 -- a command 1 or 2 zeroes the dividers
 abbrev pub commanded1 : ℕ → StandIn → StandIn
-commanded1 w s = with_dividers no_phase (with_registers (record { command1 = w; command2 = s.rest.registers.command2; control = s.rest.registers.control; mode = s.rest.registers.mode; direction1 = s.rest.registers.direction1; latch1 = s.rest.registers.latch1; latch2 = s.rest.registers.latch2 }) s)
+commanded1 w s = with_dividers no_phase (with_registers (record s.rest.registers { command1 = w }) s)
 
 abbrev pub commanded2 : ℕ → StandIn → StandIn
-commanded2 w s = with_dividers no_phase (with_registers (record { command1 = s.rest.registers.command1; command2 = w; control = s.rest.registers.control; mode = s.rest.registers.mode; direction1 = s.rest.registers.direction1; latch1 = s.rest.registers.latch1; latch2 = s.rest.registers.latch2 }) s)
+commanded2 w s = with_dividers no_phase (with_registers (record s.rest.registers { command2 = w }) s)
 
 -- a mode word that turns T5C on makes timer 5 rest
 abbrev pub mode_set : ℕ → StandIn → StandIn
 mode_set w s =
     with_timers (selected (bit_of 5 s.rest.registers.mode) (bit_of 5 w) s.rest.timers)
-    (with_registers (record { command1 = s.rest.registers.command1; command2 = s.rest.registers.command2; control = s.rest.registers.control; mode = w; direction1 = s.rest.registers.direction1; latch1 = s.rest.registers.latch1; latch2 = s.rest.registers.latch2 }) s)
+    (with_registers (record s.rest.registers { mode = w }) s)
 
 abbrev pub direction_set : ℕ → StandIn → StandIn
-direction_set w s = with_registers (record { command1 = s.rest.registers.command1; command2 = s.rest.registers.command2; control = s.rest.registers.control; mode = s.rest.registers.mode; direction1 = w; latch1 = s.rest.registers.latch1; latch2 = s.rest.registers.latch2 }) s
+direction_set w s = with_registers (record s.rest.registers { direction1 = w }) s
 
 abbrev pub latch_set : Port → ℕ → StandIn → StandIn
-latch_set One w s = with_registers (record { command1 = s.rest.registers.command1; command2 = s.rest.registers.command2; control = s.rest.registers.control; mode = s.rest.registers.mode; direction1 = s.rest.registers.direction1; latch1 = w; latch2 = s.rest.registers.latch2 }) s
-latch_set Two w s = with_registers (record { command1 = s.rest.registers.command1; command2 = s.rest.registers.command2; control = s.rest.registers.control; mode = s.rest.registers.mode; direction1 = s.rest.registers.direction1; latch1 = s.rest.registers.latch1; latch2 = w }) s
+latch_set One w s = with_registers (record s.rest.registers { latch1 = w }) s
+latch_set Two w s = with_registers (record s.rest.registers { latch2 = w }) s
 
 -- a disable word clears its bits in the mask and drops their requests
 abbrev pub disabled : ℕ → StandIn → StandIn

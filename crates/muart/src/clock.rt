@@ -1,11 +1,9 @@
 // One system clock of the stand-in, and many at once.
 ghost use Rattle.std.specs.Prelude.{◌≡◌, ℕ, ◌+◌, ◌*◌, ◌/◌, ◌≤◌, min};
-ghost use Rattle.timing.specs.Run.{times, when};
-ghost use Rattle.muart.specs.Bounds.{Sound};
+ghost use Rattle.timing.specs.Run.{times};
 ghost use Rattle.muart.specs.Serial.{rate_in};
 ghost use Rattle.muart.specs.Clock.{timer_step, timed, rated, internal_clock, clocked, ticks_in, quiet_rate_ticks, quiet_at_rate, quiet_clocks, Still};
 
-use crate::firing::{record_fired, timer_modes, watched};
 use crate::state::StandIn;
 use registers::words::{divide, prescale};
 use serial::rate::rate_step;
@@ -14,69 +12,54 @@ use timers::FAR;
 const RATE_MODULUS: u32 = 1_024_000;
 
 impl StandIn {
-    fn step_timers(&mut self, on: bool)
-        requires { Sound self.old }
-        ensures after { self.new ≡ when on timer_step self.old }
-        ensures sound { Sound self.new }
+    #[tactic(auto, unfolding(crate::specs::Clock::timer_step))]
+    fn step_timers(&mut self)
+        ensures { self.new ≡ timer_step self.old }
     {
-        if !on {
-            return;
-        }
-        let fired = self.rest.timers.step(timer_modes(&self.rest.registers));
-        record_fired(
-            &self.rest.registers,
-            &mut self.rest.mask,
-            &mut self.sensitive.levels.requests,
-            fired,
-        );
+        let modes = self.timer_modes();
+        let fired = self.rest.timers.step(modes);
+        self.record_fired(fired);
     }
 
     fn time(&mut self)
-        requires { Sound self.old }
-        ensures after { self.new ≡ timed self.old }
-        ensures sound { Sound self.new }
+        ensures { self.new ≡ timed self.old }
     {
         let modulus = divide(self.rest.registers.command1);
-        let step = self.rest.dividers.steps.advance(1, modulus);
-        self.step_timers(step);
+        if self.rest.dividers.steps.advance(1, modulus) {
+            self.step_timers();
+        }
     }
 
     fn rate(&mut self)
-        requires { Sound self.old }
-        ensures after { self.new ≡ rated self.old }
-        ensures sound { Sound self.new }
+        ensures { self.new ≡ rated self.old }
     {
         let step = rate_step(self.rest.registers.command2);
-        let tick = self.rest.dividers.remainder.advance(step, RATE_MODULUS);
-        self.tick_serial(tick);
+        if self.rest.dividers.remainder.advance(step, RATE_MODULUS) {
+            self.tick_serial();
+        }
     }
 
-    fn internal_clock(&mut self, on: bool)
-        requires { Sound self.old }
-        ensures after { self.new ≡ when on internal_clock self.old }
-        ensures sound { Sound self.new }
+    #[tactic(auto, unfolding(crate::specs::Clock::internal_clock))]
+    fn internal_clock(&mut self)
+        ensures { self.new ≡ internal_clock self.old }
     {
-        if !on {
-            return;
-        }
         self.time();
         self.rate();
     }
 
     // One system clock.
+    #[tactic(auto, unfolding(crate::specs::Clock::clocked))]
     pub fn clock(&mut self)
-        requires { Sound self.old }
         ensures after { self.new ≡ clocked self.old }
-        ensures sound { Sound self.new }
     {
         let modulus = prescale(self.rest.registers.command2);
-        let ends = self.rest.dividers.prescaler.advance(1, modulus);
-        self.internal_clock(ends);
+        if self.rest.dividers.prescaler.advance(1, modulus) {
+            self.internal_clock();
+        }
     }
 
     // How many internal clocks pass before a rate tick that ends a bit or samples.
     fn horizon_at_rate(&self) -> u64
-        requires { Sound self.now }
         ensures value { result ≡ quiet_at_rate (rate_in self.now) self.now }
         ensures within { (n : ℕ) → n ≤ min 16777216 result → ticks_in n self.now ≤ quiet_rate_ticks self.now }
     {
@@ -94,13 +77,11 @@ impl StandIn {
 
     // How many clocks pass with nothing but counts, dividers and ticks within a bit moving.
     pub fn horizon(&self) -> u64
-        requires { Sound self.now }
         ensures value { result ≡ quiet_clocks self.now }
         ensures still { (n : ℕ) → n ≤ result → Still n self.now }
     {
         let registers = &self.rest.registers;
-        let heeded = watched(registers, &self.rest.mask, &self.sensitive.levels.requests);
-        let fires = self.rest.timers.horizon(timer_modes(registers), heeded);
+        let fires = self.rest.timers.horizon(self.timer_modes(), self.watched());
         let steps = FAR.min(fires);
         let most = self
             .rest
@@ -116,14 +97,12 @@ impl StandIn {
 
     // Many clocks at once, of which none is past the horizon.
     pub fn skip(&mut self, clocks: u64)
-        requires sound { Sound self.old }
         requires still { Still clocks self.old }
         requires short { clocks ≤ 16777216 }
         ensures after { self.new ≡ times clocks clocked self.old }
-        ensures sound { Sound self.new }
         ensures ticks { (n : ℕ) → ticks_in n self.old ≡ (self.old.rest.dividers.remainder.at + n * rate_in self.old) / 1024000 }
     {
-        let modes = timer_modes(&self.rest.registers);
+        let modes = self.timer_modes();
         let prescaler = prescale(self.rest.registers.command2);
         let divider = divide(self.rest.registers.command1);
         let internals = self.rest.dividers.prescaler.skip(clocks, 1, prescaler);

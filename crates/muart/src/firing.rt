@@ -1,72 +1,89 @@
 // What the timers that step from 1 to 0 do to the levels.
 ghost use Rattle.std.specs.Prelude.{◌≡◌, ◌<◌};
-ghost use Rattle.muart.specs.Firing.{modes_of, fired_requests, fired_mask, unasked as is_unasked, heeded as is_heeded, watched as timers_watched};
+ghost use Rattle.muart.specs.Firing.{modes_of, biti_of, asks as asked, recorded, unasked as is_unasked, heeded as is_heeded, watched as timers_watched};
 
-use registers::held::Registers;
+use crate::state::StandIn;
 use registers::words::bit;
 use timers::{Fired, TimerModes};
 
-pub fn timer_modes(registers: &Registers) -> TimerModes
-    ensures { result ≡ modes_of registers.now }
-{
-    TimerModes {
-        t35: bit(registers.mode, 7),
-        t24: bit(registers.mode, 6),
-        t5c: bit(registers.mode, 5),
-        ct3: bit(registers.mode, 4),
-        ct2: bit(registers.mode, 3),
+impl StandIn {
+    pub fn timer_modes(&self) -> TimerModes
+        ensures { result ≡ modes_of self.now.rest.registers }
+    {
+        let mode = self.rest.registers.mode;
+        TimerModes {
+            t35: bit(mode, 7),
+            t24: bit(mode, 6),
+            t5c: bit(mode, 5),
+            ct3: bit(mode, 4),
+            ct2: bit(mode, 3),
+        }
     }
-}
 
-// Each requests its level if that is enabled; under T5C the request of timer 5, or of its pair, disables the level.
-pub fn record_fired(
-    registers: &Registers,
-    mask: &mut [bool; 8],
-    requests: &mut [bool; 8],
-    fired: Fired,
-)
-    ensures recorded { requests.new ≡ fired_requests registers.now fired mask.old requests.old }
-    ensures disabled { mask.new ≡ fired_mask registers.now fired mask.old }
-{
-    let biti = bit(registers.command1, 2);
-    levels::request_if(requests, mask, 0, fired.one);
-    levels::request_if(requests, mask, 1, fired.two && !biti);
-    levels::request_if(requests, mask, 3, fired.three);
-    levels::request_if(requests, mask, 6, fired.four);
-    levels::request_if(requests, mask, 7, fired.five);
-    let modes = timer_modes(registers);
-    if modes.t35 {
-        levels::clear_if(mask, 3, modes.t5c && fired.three);
-    } else {
-        levels::clear_if(mask, 7, modes.t5c && fired.five);
+    // With BITI level 1 is a rise of P17, and not timer 2.
+    pub(crate) fn biti(&self) -> bool
+        ensures { result ≡ biti_of self.now.rest.registers }
+    {
+        bit(self.rest.registers.command1, 2)
     }
-}
 
-fn unasked(mask: &[bool; 8], requests: &[bool; 8], level: usize) -> bool
-    requires { level < 8 }
-    ensures { result ≡ is_unasked level mask.now requests.now }
-{
-    mask[level] && !requests[level]
-}
+    // If it asks and is enabled, the level requests.
+    pub(crate) fn request(&mut self, level: u8, asks: bool)
+        requires { level < 8 }
+        ensures { self.new ≡ asked asks level self.old }
+    {
+        levels::request_if(
+            &mut self.sensitive.levels.requests,
+            &self.rest.mask,
+            level,
+            asks,
+        );
+    }
 
-fn heeded(mask: &[bool; 8], requests: &[bool; 8], level: usize, disabling: bool) -> bool
-    requires { level < 8 }
-    ensures { result ≡ is_heeded disabling level mask.now requests.now }
-{
-    mask[level] && (disabling || !requests[level])
-}
+    // Each requests its level; under T5C the request of timer 5, or of its pair, disables the level.
+    pub fn record_fired(&mut self, fired: Fired)
+        ensures { self.new ≡ recorded fired self.old }
+    {
+        let modes = self.timer_modes();
+        let biti = self.biti();
+        self.request(0, fired.one);
+        self.request(1, fired.two && !biti);
+        self.request(3, fired.three);
+        self.request(6, fired.four);
+        self.request(7, fired.five);
+        if modes.t35 {
+            levels::clear_if(&mut self.rest.mask, 3, modes.t5c && fired.three);
+        } else {
+            levels::clear_if(&mut self.rest.mask, 7, modes.t5c && fired.five);
+        }
+    }
 
-// The timers whose firing would change the requests or the mask.
-pub fn watched(registers: &Registers, mask: &[bool; 8], requests: &[bool; 8]) -> Fired
-    ensures { result ≡ timers_watched registers.now mask.now requests.now }
-{
-    let modes = timer_modes(registers);
-    let biti = bit(registers.command1, 2);
-    Fired {
-        one: unasked(mask, requests, 0),
-        two: !biti && unasked(mask, requests, 1),
-        three: heeded(mask, requests, 3, modes.t5c && modes.t35),
-        four: unasked(mask, requests, 6),
-        five: heeded(mask, requests, 7, modes.t5c && !modes.t35),
+    fn unasked(&self, level: usize) -> bool
+        requires { level < 8 }
+        ensures { result ≡ is_unasked level self.now.rest.mask self.now.sensitive.levels.requests }
+    {
+        self.rest.mask[level] && !self.sensitive.levels.requests[level]
+    }
+
+    fn heeded(&self, level: usize, disabling: bool) -> bool
+        requires { level < 8 }
+        ensures { result ≡ is_heeded disabling level self.now.rest.mask self.now.sensitive.levels.requests }
+    {
+        self.rest.mask[level] && (disabling || !self.sensitive.levels.requests[level])
+    }
+
+    // The timers whose firing would change the requests or the mask.
+    pub fn watched(&self) -> Fired
+        ensures { result ≡ timers_watched self.now.rest.registers self.now.rest.mask self.now.sensitive.levels.requests }
+    {
+        let modes = self.timer_modes();
+        let biti = self.biti();
+        Fired {
+            one: self.unasked(0),
+            two: !biti && self.unasked(1),
+            three: self.heeded(3, modes.t5c && modes.t35),
+            four: self.unasked(6),
+            five: self.heeded(7, modes.t5c && !modes.t35),
+        }
     }
 }

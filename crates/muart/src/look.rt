@@ -3,7 +3,7 @@ ghost use Rattle.std.specs.Prelude.{◌≡◌, length};
 ghost use Rattle.muart.specs.Looks.{look_answer, look_writes};
 
 use crate::read::read;
-use crate::state::{Rest, Sensitive};
+use crate::state::{Rest, Sensitive, StandIn};
 use registers::refusal::Refusal;
 use registers::register::Register;
 
@@ -41,6 +41,7 @@ pub fn look(
         held: sensitive,
         saved,
     };
+    // Tried without `at`, by a zip with `iter_mut`: the proof did not close, since it knows nothing of what such a zip wrote.
     for (at, number) in registers.iter().enumerate() {
         let Some(register) = Register::numbered(*number) else {
             return Err(Refusal::NoSuchRegister);
@@ -48,4 +49,14 @@ pub fn look(
         place[at] = read(rest, guard.held, register).byte;
     }
     Ok(())
+}
+
+impl StandIn {
+    pub fn look(&mut self, registers: &[u8], place: &mut [u8]) -> Result<(), Refusal>
+        ensures answer { result ≡ look_answer registers.now (length place.old) }
+        ensures same { self.new ≡ self.old }
+        ensures wrote { place.new ≡ look_writes registers.now self.old.rest self.old.sensitive place.old }
+    {
+        look(&self.rest, &mut self.sensitive, registers, place)
+    }
 }

@@ -1,15 +1,12 @@
 // Setting the outside level of a pin.
 ghost use Rattle.std.specs.Prelude.{◌≡◌, ◌<◌, IfOk};
-ghost use Rattle.muart.specs.Bounds.{Sound};
 ghost use Rattle.registers.specs.Ports.{Placed};
-ghost use Rattle.muart.specs.PinCalls.{set_outside, counts_two, counts_three, calls_one, rise as rise_of, fall as fall_of, pin_set, pin_tested};
+ghost use Rattle.muart.specs.PinCalls.{set_outside, rise as rise_of, fall as fall_of, pin_set, pin_tested};
 
-use crate::firing::{record_fired, timer_modes};
 use crate::state::StandIn;
 use registers::held::Pins;
 use registers::pins::{Pin, drives, outside_level};
 use registers::refusal::Refusal;
-use registers::words::bit;
 
 fn set_outside(pins: &mut Pins, pin: Pin, level: bool)
     requires { Placed pin }
@@ -24,76 +21,27 @@ fn set_outside(pins: &mut Pins, pin: Pin, level: bool)
 }
 
 impl StandIn {
-    fn count_two(&mut self)
-        requires { Sound self.old }
-        ensures after { self.new ≡ counts_two self.old }
-        ensures sound { Sound self.new }
-    {
-        let fired = self
-            .rest
-            .timers
-            .count_two(timer_modes(&self.rest.registers));
-        record_fired(
-            &self.rest.registers,
-            &mut self.rest.mask,
-            &mut self.sensitive.levels.requests,
-            fired,
-        );
-    }
-
-    fn count_three(&mut self)
-        requires { Sound self.old }
-        ensures after { self.new ≡ counts_three self.old }
-        ensures sound { Sound self.new }
-    {
-        let fired = self
-            .rest
-            .timers
-            .count_three(timer_modes(&self.rest.registers));
-        record_fired(
-            &self.rest.registers,
-            &mut self.rest.mask,
-            &mut self.sensitive.levels.requests,
-            fired,
-        );
-    }
-
-    fn call_one(&mut self)
-        requires { Sound self.old }
-        ensures after { self.new ≡ calls_one self.old }
-        ensures sound { Sound self.new }
-    {
-        let biti = bit(self.rest.registers.command1, 2);
-        levels::request_if(
-            &mut self.sensitive.levels.requests,
-            &self.rest.mask,
-            1,
-            biti,
-        );
-    }
-
     // P12 and P13 count, P17 requests.
     fn rise(&mut self, pin: Pin)
-        requires { Sound self.old }
-        ensures after { self.new ≡ rise_of pin self.old }
-        ensures sound { Sound self.new }
+        ensures { self.new ≡ rise_of pin self.old }
     {
-        match pin {
-            Pin::Port1(2) => self.count_two(),
-            Pin::Port1(3) => self.count_three(),
-            Pin::Port1(7) => self.call_one(),
-            _ => {}
-        }
+        let modes = self.timer_modes();
+        let fired = match pin {
+            Pin::Port1(2) => self.rest.timers.count_two(modes),
+            Pin::Port1(3) => self.rest.timers.count_three(modes),
+            Pin::Port1(7) => return self.request(1, self.biti()),
+            _ => return,
+        };
+        self.record_fired(fired);
     }
 
     // P15 triggers timer 5, and CTS lets a character load.
     fn fall(&mut self, pin: Pin)
-        requires { Sound self.old }
-        ensures after { self.new ≡ fall_of pin self.old }
-        ensures sound { Sound self.new }
+        ensures { self.new ≡ fall_of pin self.old }
     {
+        let modes = self.timer_modes();
         match pin {
-            Pin::Port1(5) => self.rest.timers.trigger(timer_modes(&self.rest.registers)),
+            Pin::Port1(5) => self.rest.timers.trigger(modes),
             Pin::Cts => self.release(),
             _ => {}
         }
@@ -101,10 +49,8 @@ impl StandIn {
 
     // Only a change of the level makes an edge.
     pub fn set_level(&mut self, pin: Pin, level: bool)
-        requires sound { Sound self.old }
         requires placed { Placed pin }
         ensures after { self.new ≡ pin_set pin level self.old }
-        ensures sound { Sound self.new }
     {
         if outside_level(&self.rest.pins, pin) == level {
             return;
@@ -122,9 +68,7 @@ impl StandIn {
         ensures answer { result ≡ pin_tested code self.now }
         ensures within { IfOk result Placed }
     {
-        let Some(pin) = Pin::coded(code) else {
-            return Err(Refusal::NoSuchPin);
-        };
+        let pin = Pin::coded(code).ok_or(Refusal::NoSuchPin)?;
         if drives(&self.rest.registers, pin) {
             return Err(Refusal::OutputPin);
         }

@@ -1,9 +1,7 @@
 // Acknowledge pulses.
 ghost use Rattle.std.specs.Prelude.{◌≡◌, ◌<◌, true, IfOk};
 ghost use Rattle.muart.specs.Pulses.{pulse_level, pulsed, single_answer, single_level, first_answer, first_level, begins, second_answer, second_leaves};
-ghost use Rattle.muart.specs.Bounds.{Sound};
 
-use crate::read::interrupts;
 use crate::state::StandIn;
 use registers::refusal::Refusal;
 use registers::words::Family;
@@ -38,7 +36,6 @@ pub struct Begun {
 impl StandIn {
     // The tests of a pulse of a host of `family`, and then the taking.
     fn pulse(&mut self, family: Family) -> Result<u8, Refusal>
-        requires { Sound self.old }
         ensures answer { result ≡ pulse_level family self.old }
         ensures after { self.new ≡ pulsed result self.old }
         ensures within { IfOk result (λ l. l < 8) }
@@ -46,34 +43,29 @@ impl StandIn {
         if !self.rest.registers.control.iae {
             return Err(Refusal::AcknowledgeDisabled);
         }
-        if !family.is(Family::selected(self.rest.registers.command1)) {
+        if !family.is(self.family()) {
             return Err(Refusal::WrongFamily);
         }
-        if !interrupts(&self.rest, &self.sensitive) {
+        if !self.interrupts() {
             return Err(Refusal::InterruptLow);
         }
         if self.rest.begun.is_some() {
             return Err(Refusal::AlreadyBegun);
         }
-        let taken = levels::take(
+        levels::take(
             &mut self.sensitive.levels,
             &self.rest.mask,
             self.rest.pins.extint,
             self.rest.registers.control.nie,
-        );
-        match taken {
-            Some(level) => Ok(level),
-            None => Err(Refusal::InterruptLow),
-        }
+        )
+        .ok_or(Refusal::InterruptLow)
     }
 
     // The single pulse of the 8085 family.
     pub fn acknowledge(&mut self) -> Result<Acknowledged, Refusal>
-        requires { Sound self.old }
         ensures tested { pulse_level Family.I8085 self.old ≡ single_level result }
         ensures answer { result ≡ single_answer (pulse_level Family.I8085 self.old) }
         ensures after { self.new ≡ pulsed (pulse_level Family.I8085 self.old) self.old }
-        ensures sound { Sound self.new }
     {
         let level = self.pulse(Family::I8085)?;
         Ok(Acknowledged {
@@ -84,11 +76,9 @@ impl StandIn {
 
     // The first pulse of the 8086 family.
     pub fn begin_acknowledge(&mut self) -> Result<Begun, Refusal>
-        requires { Sound self.old }
         ensures tested { pulse_level Family.I8086 self.old ≡ first_level result }
         ensures answer { result ≡ first_answer (pulse_level Family.I8086 self.old) }
         ensures after { self.new ≡ begins (pulse_level Family.I8086 self.old) self.old }
-        ensures sound { Sound self.new }
     {
         let level = self.pulse(Family::I8086)?;
         self.rest.begun = Some(level);
@@ -100,15 +90,11 @@ impl StandIn {
 
     // The second pulse of the 8086 family. It spends the half, whatever it answers.
     pub fn finish_acknowledge(&mut self, mut half: Half) -> Result<u8, Refusal>
-        requires { Sound self.old }
         ensures answer { result ≡ second_answer self.old.rest.begun }
         ensures after { self.new ≡ second_leaves self.old }
-        ensures sound { Sound self.new }
     {
         half.spent = true;
-        match self.rest.begun.take() {
-            Some(level) => Ok(64 + level),
-            None => Err(Refusal::NoneBegun),
-        }
+        let level = self.rest.begun.take().ok_or(Refusal::NoneBegun)?;
+        Ok(64 + level)
     }
 }

@@ -1,11 +1,15 @@
-// Reading a register.
-ghost use Rattle.std.specs.Prelude.{◌≡◌, ◌≤◌};
-ghost use Rattle.muart.specs.Reading.{weighs, control_byte, sending_bits, error_bits, status_byte, int_high, reading, read_leaves};
+// Reading a register, and what else a board asks of a stand-in.
+ghost use Rattle.std.specs.Prelude.{◌≡◌};
+ghost use Rattle.timers.specs.Access.{counts_of};
+ghost use Rattle.registers.specs.Words.{family_of};
+ghost use Rattle.muart.specs.Reading.{control_byte, status_byte, int_high, reading, read_leaves};
+ghost use Rattle.muart.specs.State.{with_sensitive};
 
-use crate::state::{Flags, Rest, Sensitive};
+use crate::state::{Flags, Rest, Sensitive, StandIn};
 use registers::held::Control;
 use registers::pins::read_port;
 use registers::register::Register;
+use registers::words::Family;
 use serial::transmitter::Transmitter;
 
 // What a read answers, and the level that it took.
@@ -28,39 +32,36 @@ pub fn interrupts(rest: &Rest, sensitive: &Sensitive) -> bool
     .is_some()
 }
 
+// Bits 6, 5 and 4; the others of command 3 do not read back.
 fn control_byte(control: &Control) -> u8
     ensures { result ≡ control_byte control.now }
 {
-    weigh(control.rxe, 64) + weigh(control.iae, 32) + weigh(control.nie, 16)
+    levels::byte_of(&[
+        false,
+        false,
+        false,
+        false,
+        control.nie,
+        control.iae,
+        control.rxe,
+        false,
+    ])
 }
 
-// What a status or control bit is worth.
-fn weigh(on: bool, weight: u8) -> u8
-    ensures value { result ≡ weighs on weight }
-    ensures bound { result ≤ weight }
-{
-    if on { weight } else { 0 }
-}
-
-fn sending_bits(transmitter: &Transmitter) -> u8
-    ensures value { result ≡ sending_bits transmitter.now }
-    ensures bound { result ≤ 48 }
-{
-    weigh(transmitter.tbe(), 32) + weigh(transmitter.tre(), 16)
-}
-
-fn error_bits(flags: &Flags) -> u8
-    ensures value { result ≡ error_bits flags.now }
-    ensures bound { result ≤ 15 }
-{
-    weigh(flags.bd, 8) + weigh(flags.pe, 4) + weigh(flags.oe, 2) + weigh(flags.fe, 1)
-}
-
+// Bits 0 to 7.
 fn status_byte(int: bool, transmitter: &Transmitter, flags: &Flags) -> u8
     ensures { result ≡ status_byte int transmitter.now flags.now }
 {
-    let sending = sending_bits(transmitter);
-    weigh(int, 128) + weigh(flags.rbf, 64) + sending + error_bits(flags)
+    levels::byte_of(&[
+        flags.fe,
+        flags.oe,
+        flags.pe,
+        flags.bd,
+        transmitter.tre(),
+        transmitter.tbe(),
+        flags.rbf,
+        int,
+    ])
 }
 
 fn read_interrupt_address(rest: &Rest, sensitive: &mut Sensitive) -> Reading
@@ -73,13 +74,8 @@ fn read_interrupt_address(rest: &Rest, sensitive: &mut Sensitive) -> Reading
         rest.pins.extint,
         rest.registers.control.nie,
     );
-    match taken {
-        Some(level) => Reading {
-            byte: 4 * level,
-            taken,
-        },
-        None => Reading { byte: 255, taken },
-    }
+    let byte = taken.map_or(255, |level| 4 * level);
+    Reading { byte, taken }
 }
 
 fn read_status(rest: &Rest, sensitive: &mut Sensitive) -> Reading
@@ -88,13 +84,9 @@ fn read_status(rest: &Rest, sensitive: &mut Sensitive) -> Reading
 {
     let int = interrupts(rest, sensitive);
     let byte = status_byte(int, &rest.serial.transmitter, &sensitive.flags);
-    let rbf = sensitive.flags.rbf;
     sensitive.flags = Flags {
-        rbf,
-        bd: false,
-        pe: false,
-        oe: false,
-        fe: false,
+        rbf: sensitive.flags.rbf,
+        ..Flags::default()
     };
     Reading { byte, taken: None }
 }
@@ -129,4 +121,47 @@ pub fn read(rest: &Rest, sensitive: &mut Sensitive, register: Register) -> Readi
         Register::Timer(number) => rest.timers.read(number),
     };
     Reading { byte, taken: None }
+}
+
+impl StandIn {
+    pub fn read(&mut self, register: Register) -> Reading
+        ensures answer { result ≡ reading register self.old.rest self.old.sensitive }
+        ensures after { self.new ≡ with_sensitive (read_leaves register self.old.rest self.old.sensitive) self.old }
+    {
+        read(&self.rest, &mut self.sensitive, register)
+    }
+
+    pub fn interrupts(&self) -> bool
+        ensures { result ≡ int_high self.now.rest self.now.sensitive }
+    {
+        interrupts(&self.rest, &self.sensitive)
+    }
+
+    // The level of RxD.
+    pub fn rxd(&self) -> bool
+        ensures { result ≡ self.now.rest.serial.rxd }
+    {
+        self.rest.serial.rxd
+    }
+
+    // The five counts together.
+    pub fn snapshot(&self) -> [u8; 5]
+        ensures { result ≡ counts_of self.now.rest.timers }
+    {
+        self.rest.timers.snapshot()
+    }
+
+    // The family that command 1 selects.
+    pub fn family(&self) -> Family
+        ensures { result ≡ family_of self.now.rest.registers.command1 }
+    {
+        Family::selected(self.rest.registers.command1)
+    }
+
+    // Whether levels nest: NIE.
+    pub fn nesting(&self) -> bool
+        ensures { result ≡ self.now.rest.registers.control.nie }
+    {
+        self.rest.registers.control.nie
+    }
 }

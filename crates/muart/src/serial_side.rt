@@ -1,41 +1,11 @@
 // The serial side within the stand-in.
-ghost use Rattle.std.specs.Prelude.{◌≡◌};
-ghost use Rattle.timing.specs.Run.{when};
+ghost use Rattle.std.specs.Prelude.{◌≡◌, Some};
 ghost use Rattle.serial.specs.Forms.{SoundForm};
-ghost use Rattle.muart.specs.Bounds.{Sound};
-ghost use Rattle.muart.specs.Serial.{form_in, txd_level, transmitter_tick, flags_after, loaded, reception_kept, receiver_tick, serial_tick, rxd_set, sent, cts_fell};
+ghost use Rattle.muart.specs.Serial.{form_in, txd_level, transmitter_tick, reception_kept, receiver_tick, serial_tick, rxd_set, sent, cts_fell};
 
-use crate::state::{Flags, StandIn};
+use crate::state::StandIn;
 use serial::form::Form;
 use serial::receiver::{Event, Reception};
-
-fn flags_after(flags: Flags, reception: Reception) -> Flags
-    ensures { result ≡ flags_after reception flags }
-{
-    match reception {
-        Reception::Break => Flags { bd: true, ..flags },
-        Reception::Character {
-            character: _,
-            parity_error,
-            framing_error,
-        } => Flags {
-            rbf: true,
-            bd: flags.bd,
-            pe: flags.pe || parity_error,
-            oe: flags.oe || flags.rbf,
-            fe: flags.fe || framing_error,
-        },
-    }
-}
-
-fn loaded_after(held: u8, reception: Reception) -> u8
-    ensures { result ≡ loaded reception held }
-{
-    match reception {
-        Reception::Break => held,
-        Reception::Character { character, .. } => character,
-    }
-}
 
 impl StandIn {
     // The form that commands 1 and 2 give now.
@@ -47,74 +17,62 @@ impl StandIn {
     }
 
     pub fn txd(&self) -> bool
-        requires { Sound self.now }
         ensures { result ≡ txd_level self.now }
     {
         self.rest.serial.transmitter.txd()
     }
 
     fn tick_transmitter(&mut self)
-        requires { Sound self.old }
         ensures after { self.new ≡ transmitter_tick self.old }
-        ensures sound { Sound self.new }
     {
         let form = self.form();
         let cts = self.rest.pins.cts;
         let asks = self.rest.serial.transmitter.tick(form, cts);
-        levels::request_if(
-            &mut self.sensitive.levels.requests,
-            &self.rest.mask,
-            5,
-            asks,
-        );
+        self.request(5, asks);
     }
 
-    fn keep_reception(&mut self, reception: Option<Reception>)
-        requires { Sound self.old }
-        ensures after { self.new ≡ reception_kept reception self.old }
-        ensures sound { Sound self.new }
+    fn keep(&mut self, reception: Reception)
+        ensures { self.new ≡ reception_kept (Some reception) self.old }
     {
-        let Some(reception) = reception else {
-            return;
-        };
-        self.rest.serial.received = loaded_after(self.rest.serial.received, reception);
-        self.sensitive.flags = flags_after(self.sensitive.flags, reception);
-        levels::request_if(
-            &mut self.sensitive.levels.requests,
-            &self.rest.mask,
-            4,
-            true,
-        );
+        let flags = &mut self.sensitive.flags;
+        match reception {
+            Reception::Break => flags.bd = true,
+            Reception::Character {
+                character,
+                parity_error,
+                framing_error,
+            } => {
+                flags.pe |= parity_error;
+                flags.oe |= flags.rbf;
+                flags.fe |= framing_error;
+                flags.rbf = true;
+                self.rest.serial.received = character;
+            }
+        }
+        self.request(4, true);
     }
 
     fn tick_receiver(&mut self)
-        requires { Sound self.old }
-        ensures after { self.new ≡ receiver_tick self.old }
-        ensures sound { Sound self.new }
+        ensures { self.new ≡ receiver_tick self.old }
     {
         let rxd = self.rest.serial.rxd;
-        let reception = self.rest.serial.receiver.on(Event::Tick(rxd));
-        self.keep_reception(reception);
+        if let Some(reception) = self.rest.serial.receiver.on(Event::Tick(rxd)) {
+            self.keep(reception);
+        }
     }
 
-    // One rate tick if `on`.
-    pub(crate) fn tick_serial(&mut self, on: bool)
-        requires { Sound self.old }
-        ensures after { self.new ≡ when on serial_tick self.old }
-        ensures sound { Sound self.new }
+    // One rate tick.
+    #[tactic(auto, unfolding(crate::specs::Serial::serial_tick))]
+    pub(crate) fn tick_serial(&mut self)
+        ensures { self.new ≡ serial_tick self.old }
     {
-        if !on {
-            return;
-        }
         self.tick_transmitter();
         self.tick_receiver();
     }
 
     // The partner's level at RxD. A fall may start the receiver.
     pub fn set_rxd(&mut self, level: bool)
-        requires { Sound self.old }
         ensures after { self.new ≡ rxd_set level self.old }
-        ensures sound { Sound self.new }
     {
         let falls = self.rest.serial.rxd && !level && self.rest.registers.control.rxe;
         let form = self.form();
@@ -126,34 +84,20 @@ impl StandIn {
 
     // A character written to the transmit buffer.
     pub(crate) fn send(&mut self, character: u8)
-        requires { Sound self.old }
         ensures after { self.new ≡ sent character self.old }
-        ensures sound { Sound self.new }
     {
         let form = self.form();
         let cts = self.rest.pins.cts;
         let asks = self.rest.serial.transmitter.write(character, form, cts);
-        levels::request_if(
-            &mut self.sensitive.levels.requests,
-            &self.rest.mask,
-            5,
-            asks,
-        );
+        self.request(5, asks);
     }
 
     // CTS fell: a waiting character may load.
     pub(crate) fn release(&mut self)
-        requires { Sound self.old }
         ensures after { self.new ≡ cts_fell self.old }
-        ensures sound { Sound self.new }
     {
         let form = self.form();
         let asks = self.rest.serial.transmitter.release(form);
-        levels::request_if(
-            &mut self.sensitive.levels.requests,
-            &self.rest.mask,
-            5,
-            asks,
-        );
+        self.request(5, asks);
     }
 }

@@ -3,6 +3,7 @@ use levels::Pending;
 use registers::held::{Pins, Registers};
 use serial::receiver::Receiver;
 use serial::transmitter::Transmitter;
+use std::marker::Model;
 use timers::Timers;
 use timing::Accumulator;
 
@@ -24,7 +25,7 @@ pub struct Serial {
 }
 
 // The receiver's five flags: receive buffer full, break detected, parity error, overrun error, framing error.
-#[derive(Clone, Copy)]
+#[derive(Clone, Copy, Default)]
 pub struct Flags {
     pub rbf: bool,
     pub bd: bool,
@@ -54,6 +55,20 @@ pub struct Rest {
 
 #[derive(Clone, Copy)]
 pub struct StandIn {
-    pub rest: Rest,
-    pub sensitive: Sensitive,
+    pub(crate) rest: Rest,
+    pub(crate) sensitive: Sensitive,
+}
+
+impl Model for StandIn {
+    ghost use Rattle.muart.specs.Parts.{Parts};
+
+    ghost Value = { Parts };
+
+    ghost use Rattle.muart.specs.Bounds.{Sound};
+
+    ghost view = { λ a. record { rest = a.rest; sensitive = a.sensitive } };
+
+    ghost invariant = { λ a. Sound (record { rest = a.rest; sensitive = a.sensitive }) };
+
+    ghost inverse = { λ v. record { rest = v.rest; sensitive = v.sensitive } };
 }

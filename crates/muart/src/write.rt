@@ -1,6 +1,5 @@
 // Power-up, reset, and writing a register.
 ghost use Rattle.std.specs.Prelude.{◌≡◌};
-ghost use Rattle.muart.specs.Bounds.{Sound};
 ghost use Rattle.muart.specs.Writing.{reset_to, was_reset, powered_up, lawful as is_lawful, controlled, left_in_service, left_receiving, commanded3, stored, write_answer, write_leaves};
 
 use crate::state::{Dividers, Flags, Rest, Sensitive, Serial, StandIn};
@@ -83,7 +82,6 @@ fn listen_on(receiver: &mut Receiver, word: u8)
 impl StandIn {
     fn cleared(pins: Pins, rxd: bool) -> StandIn
         ensures after { result ≡ reset_to pins rxd }
-        ensures sound { Sound result }
     {
         StandIn {
             rest: Rest {
@@ -105,20 +103,13 @@ impl StandIn {
                     requests: [false; 8],
                     service: [false; 8],
                 },
-                flags: Flags {
-                    rbf: false,
-                    bd: false,
-                    pe: false,
-                    oe: false,
-                    fe: false,
-                },
+                flags: Flags::default(),
             },
         }
     }
 
     pub fn power_up(rxd: bool) -> StandIn
         ensures after { result ≡ powered_up rxd }
-        ensures sound { Sound result }
     {
         let pins = Pins {
             port1: [false; 8],
@@ -133,7 +124,6 @@ impl StandIn {
     pub fn reset(&mut self) -> [bool; 8]
         ensures closed { result ≡ self.old.sensitive.levels.service }
         ensures after { self.new ≡ was_reset self.old }
-        ensures sound { Sound self.new }
     {
         let closed = self.sensitive.levels.service;
         *self = StandIn::cleared(self.rest.pins, self.rest.serial.rxd);
@@ -141,12 +131,10 @@ impl StandIn {
     }
 
     fn command3(&mut self, word: u8)
-        requires { Sound self.old }
         ensures after { self.new ≡ commanded3 word self.old }
-        ensures sound { Sound self.new }
     {
         if bit(word, 7) && bit(word, 0) {
-            *self = StandIn::cleared(self.rest.pins, self.rest.serial.rxd);
+            let _ = self.reset();
             return;
         }
         serve_word(&mut self.sensitive.levels.service, word);
@@ -155,9 +143,7 @@ impl StandIn {
     }
 
     fn store(&mut self, register: Register, word: u8)
-        requires { Sound self.old }
         ensures after { self.new ≡ stored register word self.old }
-        ensures sound { Sound self.new }
     {
         let t5c = bit(self.rest.registers.mode, 5);
         match register {
@@ -193,10 +179,8 @@ impl StandIn {
 
     // Tells the levels that the word closed.
     pub fn write(&mut self, register: Register, word: u8) -> Result<[bool; 8], Refusal>
-        requires { Sound self.old }
         ensures answer { result ≡ write_answer register word self.old }
         ensures after { self.new ≡ write_leaves result register word self.old }
-        ensures sound { Sound self.new }
     {
         if !lawful(register, word) {
             return Err(Refusal::UnlawfulWord);
