@@ -1,6 +1,6 @@
 -- What one turn of a look keeps.
 use Rattle.std.proofs.Common.{◌≡◌, ℕ, zero, suc, ◌+◌, ◌<◌, ◌≤◌, List, [], ◌∷◌, ◌++◌, length, get_or, take, drop, set, Some, None, Ok, Err, sym, refl, ap, ◌∙◌, le_of_suc-le-suc, not-suc-le-zero, add-one, take-append-drop}
-use Rattle.registers.specs.declared.refusal.Refusal.TheVariants.{NoSuchRegister}
+use Rattle.refusals.specs.declared.refusal.Refusal.TheVariants.{NoSuchRegister}
 use Rattle.registers.specs.declared.register.Register.{Register}
 use Rattle.muart.specs.declared.state.Rest.{Rest}
 use Rattle.muart.specs.declared.state.Sensitive.{Sensitive}

@@ -2,8 +2,8 @@
 use Rattle.std.specs.Prelude.{ℕ, Bool, true, false, cond, Some, None, Ok, Err, Option, Result, ◌==◌, slice_set}
 use Rattle.timers.specs.Stepping.{counted_two, firing_two, counted_three, firing_three}
 use Rattle.timers.specs.Access.{triggered}
-use Rattle.registers.specs.declared.refusal.Refusal.{Refusal}
-use Rattle.registers.specs.declared.refusal.Refusal.TheVariants.{NoSuchPin, OutputPin}
+use Rattle.refusals.specs.declared.refusal.Refusal.{Refusal}
+use Rattle.refusals.specs.declared.refusal.Refusal.TheVariants.{NoSuchPin, OutputPin}
 use Rattle.registers.specs.declared.pins.Pin.{Pin}
 use Rattle.registers.specs.declared.pins.Pin.TheVariants.{Port1, Port2, Cts, Extint}
 use Rattle.registers.specs.declared.held.Pins.{Pins}

@@ -3,8 +3,8 @@ use Rattle.std.specs.Prelude.{ℕ, Bool, true, false, cond, not, ◌&&◌, List,
 use Rattle.levels.specs.Sets.{union, minus, ended}
 use Rattle.levels.specs.Bytes.{flags}
 use Rattle.timers.specs.Access.{cleared_timers, written as timer_written, selected}
-use Rattle.registers.specs.declared.refusal.Refusal.{Refusal}
-use Rattle.registers.specs.declared.refusal.Refusal.TheVariants.{UnlawfulWord}
+use Rattle.refusals.specs.declared.refusal.Refusal.{Refusal}
+use Rattle.refusals.specs.declared.refusal.Refusal.TheVariants.{UnlawfulWord}
 use Rattle.registers.specs.declared.pins.Port.{Port}
 use Rattle.registers.specs.declared.pins.Port.TheVariants.{One, Two}
 use Rattle.registers.specs.declared.register.Register.{Register}
