@@ -5,6 +5,7 @@ ghost use Rattle.timers.specs.Counts.{far};
 ghost use Rattle.timers.specs.Stepping.{stepped, firing, all_lapsed, quiet_for, Quiet, heard, counted_two, firing_two, counted_three, firing_three, no_timer};
 ghost use Rattle.timers.specs.Access.{cleared_timers, count_of, written, triggered, selected, counts_of};
 
+use crate::count::Count;
 use crate::duo::{Duo, Units};
 use crate::modes::{Fired, Number, TimerModes};
 use crate::timer::Timer;
@@ -52,7 +53,7 @@ impl Timers {
         ensures state { self.new ≡ stepped modes self.old }
     {
         let drive = modes.odd_clock(self.trigger.resting);
-        let one = self.one.step(true);
+        let one = self.one.count.step(true);
         let even = self.even.step(modes.even_clock());
         let odd = self.odd.step(drive);
         Fired::new(one, even, odd)
@@ -64,7 +65,7 @@ impl Timers {
         ensures modulo { self.new ≡ all_lapsed modes n self.old }
     {
         let drive = modes.odd_clock(self.trigger.resting);
-        self.one.skip(n, true);
+        self.one.count.skip(n, true);
         self.even.skip(n, modes.even_clock());
         self.odd.skip(n, drive);
     }
@@ -75,7 +76,7 @@ impl Timers {
         ensures quiet { (k : ℕ) → k < result → Quiet (firing modes (times k (stepped modes) self.now)) watched }
         ensures ends { result < far → heard (firing modes (times result (stepped modes) self.now)) watched ≡ true }
     {
-        let one = self.one.wait(true, watched.one);
+        let one = self.one.count.wait(true, watched.one);
         let even = self.even.wait(modes.even_clock(), watched.even_units());
         let drive = modes.odd_clock(self.trigger.resting);
         let odd = self.odd.wait(drive, watched.odd_units());
@@ -89,7 +90,7 @@ impl Timers {
         ensures idle { modes.ct2 ≡ false → (self.new ≡ self.old) × (result ≡ no_timer) }
     {
         let even = self.even.step(modes.even_edge());
-        Fired::new(false, even, Units::NONE)
+        Fired::new(false, even, Units::default())
     }
 
     // A rise on the pin that timer 3, or its pair unless it rests, counts under CT3; the timers that go from 1 to 0.
@@ -99,7 +100,7 @@ impl Timers {
         ensures idle { modes.ct3 ≡ false → (self.new ≡ self.old) × (result ≡ no_timer) }
     {
         let odd = self.odd.step(modes.odd_edge(self.trigger.resting));
-        Fired::new(false, Units::NONE, odd)
+        Fired::new(false, Units::default(), odd)
     }
 
     // A fall on the trigger pin. A load is no step: nothing requests.
