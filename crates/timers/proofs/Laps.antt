@@ -2,11 +2,13 @@
 use Rattle.std.proofs.Common.{◌≡◌, ℕ, zero, suc, ◌<◌, Bool, true, false, sym, refl, ap, ◌∙◌, arith}
 use Rattle.std.proofs.lemmas.Nat.{div-mul-add, mod-mul-add, div-add-mod', mod_below}
 use Rattle.timing.specs.Run.{times, when}
+use Rattle.timing.proofs.Repeats.{times_still}
 use Rattle.timers.specs.declared.timer.Timer.{Timer}
 use Rattle.timers.specs.declared.duo.Duo.{Duo}
 use Rattle.timers.specs.declared.duo.Drive.TheVariants.{Apart}
-use Rattle.timers.specs.Counts.{lowered, ticked}
-use Rattle.timers.specs.Duos.{value_of, parted, pair_ticked, duo_stepped}
+use Rattle.timers.specs.Counts.{lowered, ticked, lapsed}
+use Rattle.timers.specs.Duos.{value_of, parted, pair_ticked, pair_lapsed, duo_stepped}
+use Rattle.timers.proofs.Lowering.{times_lowered}
 
 -- A timer goes as its count does.
 pub ticked_times : (n : ℕ) (on : Bool) (t : Timer) → times n (when on ticked) t ≡ record { count = times n (when on (lowered 256)) t.count }
@@ -47,3 +49,15 @@ apart_times n l h d = each n d ∙ (λ i. record { low = ticked_times n l d.low 
     each : (n : ℕ) (d : Duo) → times n (duo_stepped (Apart l h)) d ≡ record { low = times n (when l ticked) d.low; high = times n (when h ticked) d.high }
     each zero d = refl
     each (suc n) d = each n (duo_stepped (Apart l h) d)
+
+-- n steps at once: of a timer, and of a duo that is joined.
+pub timer_lapsed : (n : ℕ) (on : Bool) (t : Timer) → t.count < 256 → times n (when on ticked) t ≡ when on (lapsed n) t
+timer_lapsed n true t h = ticked_times n true t ∙ (let e = times_lowered 256 n t.count h in λ i. record { count = e i })
+timer_lapsed n false t h = times_still n ticked t
+
+-- Two bytes make a joined count.
+value_below : (d : Duo) → d.low.count < 256 → d.high.count < 256 → value_of d < 65536
+value_below d l h = omega arith
+
+pub pair_lapsed_lem : (n : ℕ) (d : Duo) → d.low.count < 256 → d.high.count < 256 → times n pair_ticked d ≡ pair_lapsed n d
+pair_lapsed_lem n d l h = pair_times n true d l ∙ ap parted (times_lowered 65536 n (value_of d) (value_below d l h))

@@ -47,6 +47,9 @@ module _ (m : ℕ) where
   steps_when n true c h = times_lowered n c h
   steps_when n false c h = times_still n (lowered m) c
 
+  pub steps_off : (n : ℕ) (on : Bool) (c : ℕ) → on ≡ false → c ≡ times n (when on (lowered m)) c
+  steps_off n on c e = rw e (sym (times_still n (lowered m) c))
+
   -- A request falls within n steps exactly if the distance to zero is passed.
   pub fires_within_lem : (n c : ℕ) → 1 < m → c < m → fires_within m n c ≡ leb (distance m c) n
   fires_within_lem zero c w h = grind (arith, nat_tests)

@@ -2,14 +2,13 @@
 use Rattle.std.proofs.Common.{◌≡◌, ℕ, ◌-◌, ◌<◌, min, Bool, true, false, ◌&&◌, ◌⊎◌, refl, ap, ◌∙◌, inl, inr, arith}
 use mathlib.Core.Bool.{or-true}
 use Rattle.std.proofs.lemmas.Bool.Decides.{nat_tests}
-use Rattle.std.proofs.lemmas.Bool.{false≢true, and_right, cases_lt}
+use Rattle.std.proofs.lemmas.Bool.{and_right, cases_lt}
 use Rattle.timing.specs.Run.{times, when}
-use Rattle.timers.specs.declared.timer.Timer.{Timer}
 use Rattle.timers.specs.declared.duo.Duo.{Duo}
 use Rattle.timers.specs.declared.duo.Units.{Units}
 use Rattle.timers.specs.declared.duo.Drive.TheVariants.{Apart, Joined}
-use Rattle.timers.specs.Counts.{lowered, fires, distance, wait, far, ticked}
-use Rattle.timers.specs.Duos.{value_of, pair_ticked, duo_stepped, duo_fired, DuoQuiet, duo_heard}
+use Rattle.timers.specs.Counts.{lowered, fires, distance, wait, far}
+use Rattle.timers.specs.Duos.{value_of, duo_stepped, duo_fired, DuoQuiet, duo_heard}
 use Rattle.timers.proofs.Lowering.{fires_at}
 use Rattle.timers.proofs.Laps.{pair_value, apart_times}
 

@@ -8,6 +8,7 @@ ghost use Rattle.timers.specs.Counts.{lowered, fires, distance, fires_within, be
 pub const FAR: u64 = 16_777_216;
 
 // The steps until the count is 0 by a step from 1: a request falls within n steps exactly if n is as many.
+#[tactic(auto, using(crate::proofs::Lowering::fires_within_lem))]
 pub fn until_zero(modulus: u32, count: u32) -> u32
     requires wide { 1 < modulus }
     requires below { count < modulus }
@@ -64,7 +65,7 @@ pub(crate) trait Count: Copy {
     }
 
     // n steps at once.
-    #[tactic(auto, using(crate::proofs::Lowering::steps_when))]
+    #[tactic(auto, using(crate::proofs::Lowering::steps_when, crate::proofs::Lowering::steps_off))]
     final fn skip(&mut self, n: u64, on: bool)
         ensures state { number self.new ≡ times n (when on (lowered MODULUS)) (number self.old) }
         ensures modulo { number self.new ≡ when on (behind MODULUS n) (number self.old) }

@@ -41,6 +41,7 @@ impl Drive {
 }
 
 impl Duo {
+    // The joined count. Casts, as `u16::from` and `from_be_bytes` leave the proof without the fact that each byte is below 256.
     fn value(&self) -> u16
         ensures joined { result ≡ value_of self.now }
         ensures bytes { (self.now.low.count < 256) × (self.now.high.count < 256) }
@@ -48,6 +49,7 @@ impl Duo {
         self.high.count as u16 * 256 + self.low.count as u16
     }
 
+    // Its inverse, and as private: a `From` would be one more public call.
     fn parted(value: u16) -> Duo
         ensures { result ≡ parted value }
     {
@@ -85,6 +87,7 @@ impl Duo {
     }
 
     // n steps at once.
+    #[tactic(auto, using(crate::proofs::Laps::apart_times))]
     pub(crate) fn skip(&mut self, n: u64, drive: Drive)
         ensures state { self.new ≡ times n (duo_stepped drive) self.old }
         ensures modulo { self.new ≡ duo_lapsed drive n self.old }

@@ -2,11 +2,8 @@ use Rattle.std.proofs.Common.{sym, ap, ◌∙◌}
 use Rattle.timing.specs.Run.{times, when}
 use Rattle.timers.specs.Counts.{lowered}
 use Rattle.timers.specs.Duos.{parted}
-use Rattle.timers.proofs.Laps.{apart_times, pair_times}
+use Rattle.timers.proofs.Laps.{pair_times}
 use Rattle.timers.proofs.duo.Duo.skip.Goals as goal
-
-pub returns-in-Apart-clause-state : goal.returns-in-Apart-clause-state
-returns-in-Apart-clause-state c = let e = apart_times c.args.n c.in-Apart.low c.in-Apart.high c.args.self.now in cc
 
 pub returns-in-Joined-clause-state : goal.returns-in-Joined-clause-state
 returns-in-Joined-clause-state c =
