@@ -40,4 +40,4 @@ module _ (g : Registers) (f : Fired) (mask recorded : List Bool) (q : Quiet f (w
       ∙ not_fresh f.five 7 mask recorded (asks_quiet f.five (get_or mask 7 false) _ (not (get_or recorded 7 false)) q.five)
 
   pub levels_kept : fired_mask g f mask ≡ mask
-  levels_kept = mask_kept (modes_of g).t35 (modes_of g).t5c f.three f.five _ _ mask q.three q.five
+  levels_kept = mask_kept (modes_of g).odd.joined (modes_of g).t5c f.three f.five _ _ mask q.three q.five

@@ -20,7 +20,7 @@ use Rattle.muart.specs.Serial.{sent}
 use Rattle.muart.specs.declared.state.Serial.{Serial}
 use Rattle.serial.specs.Sending.{fresh}
 use Rattle.serial.specs.declared.receiver.Receiver.{Receiver}
-use Rattle.serial.specs.declared.receiver.Receiver.TheVariants.{Idle}
+use Rattle.serial.specs.declared.stage.Stage.TheVariants.{Idle}
 
 -- no level
 abbrev pub no_level : List Bool

@@ -5,7 +5,7 @@ ghost use Rattle.muart.specs.Firing.{modes_of, biti_of, asks as asked, recorded,
 use crate::state::StandIn;
 use bits::bit;
 use levels::Level;
-use timers::{Fired, TimerModes};
+use timers::{DuoModes, Fired, TimerModes};
 
 impl StandIn {
     pub fn timer_modes(&self) -> TimerModes
@@ -13,11 +13,15 @@ impl StandIn {
     {
         let mode = self.rest.registers.mode;
         TimerModes {
-            t35: bit(mode, 7),
-            t24: bit(mode, 6),
+            even: DuoModes {
+                joined: bit(mode, 6),
+                counts_edges: bit(mode, 3),
+            },
+            odd: DuoModes {
+                joined: bit(mode, 7),
+                counts_edges: bit(mode, 4),
+            },
             t5c: bit(mode, 5),
-            ct3: bit(mode, 4),
-            ct2: bit(mode, 3),
         }
     }
 
@@ -51,7 +55,7 @@ impl StandIn {
         self.request(Level::new(3), fired.three);
         self.request(Level::new(6), fired.four);
         self.request(Level::new(7), fired.five);
-        if modes.t35 {
+        if modes.odd.joined {
             levels::clear_if(&mut self.rest.mask, Level::new(3), modes.t5c && fired.three);
         } else {
             levels::clear_if(&mut self.rest.mask, Level::new(7), modes.t5c && fired.five);
@@ -80,9 +84,9 @@ impl StandIn {
         Fired {
             one: self.unasked(Level::new(0)),
             two: !biti && self.unasked(Level::new(1)),
-            three: self.heeded(Level::new(3), modes.t5c && modes.t35),
+            three: self.heeded(Level::new(3), modes.t5c && modes.odd.joined),
             four: self.unasked(Level::new(6)),
-            five: self.heeded(Level::new(7), modes.t5c && !modes.t35),
+            five: self.heeded(Level::new(7), modes.t5c && !modes.odd.joined),
         }
     }
 }

@@ -3,10 +3,11 @@ ghost use Rattle.std.specs.Prelude.{◌≡◌};
 ghost use Rattle.muart.specs.PinCalls.{set_outside, rise as rise_of, fall as fall_of, pin_set, pin_tested};
 
 use crate::state::StandIn;
-use registers::held::Pins;
 use levels::Level;
-use registers::pins::Pin;
 use refusals::Refusal;
+use registers::held::Pins;
+use registers::pins::Pin;
+use timers::Side;
 
 fn set_outside(pins: &mut Pins, pin: &Pin, level: bool)
     ensures { pins.new ≡ set_outside pin.now level pins.old }
@@ -29,8 +30,8 @@ impl StandIn {
         };
         let modes = self.timer_modes();
         let fired = match place.number() {
-            2 => self.rest.timers.count_two(modes),
-            3 => self.rest.timers.count_three(modes),
+            2 => self.rest.timers.count_edge(Side::Even, modes),
+            3 => self.rest.timers.count_edge(Side::Odd, modes),
             7 => return self.request(Level::new(1), self.biti()),
             _ => return,
         };

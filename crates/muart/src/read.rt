@@ -25,11 +25,7 @@ pub fn interrupts(rest: &Rest, sensitive: &Sensitive) -> bool
 {
     let levels = &sensitive.levels;
     levels
-        .due(
-            &rest.mask,
-            rest.pins.extint,
-            rest.registers.control.nie,
-        )
+        .due(&rest.mask, rest.pins.extint, rest.registers.control.nie)
         .is_some()
 }
 
@@ -69,12 +65,10 @@ fn read_interrupt_address(rest: &Rest, sensitive: &mut Sensitive) -> Reading
     ensures answer { result ≡ reading Register.InterruptAddress rest.now sensitive.old }
     ensures after { sensitive.new ≡ read_leaves Register.InterruptAddress rest.now sensitive.old }
 {
-    let taken = sensitive.levels.take(
-        &rest.mask,
-        rest.pins.extint,
-        rest.registers.control.nie,
-    );
-    let byte = taken.map_or(255, |level| 4 * level.number());
+    let taken = sensitive
+        .levels
+        .take(&rest.mask, rest.pins.extint, rest.registers.control.nie);
+    let byte = taken.as_ref().map_or(255, |level| 4 * level.number());
     Reading { byte, taken }
 }
 

@@ -5,9 +5,9 @@ ghost use Rattle.muart.specs.Writing.{reset_to, was_reset, powered_up, lawful as
 use crate::state::{Dividers, Flags, Rest, Sensitive, Serial, StandIn};
 use bits::bit;
 use levels::Pending;
+use refusals::Refusal;
 use registers::held::{Control, Pins, Registers};
 use registers::pins::Port;
-use refusals::Refusal;
 use registers::register::Register;
 use registers::words::{lawful_command1, lawful_command2, lawful_command3, lawful_mode};
 use serial::receiver::Receiver;
