@@ -4,8 +4,8 @@ ghost use Rattle.levels.specs.Bytes.{flags};
 ghost use Rattle.levels.specs.Sets.{union, minus};
 ghost use Rattle.levels.specs.Levels.{request, fresh};
 
+use crate::Level;
 use crate::bytes::flags_of;
-use bits::Place as Level;
 use std::array;
 
 // A request is recorded if its level is enabled; nothing changes where it is recorded already.

@@ -3,7 +3,7 @@ ghost use Rattle.std.specs.Prelude.{◌≡◌};
 ghost use Rattle.levels.specs.Sets.{lowest, below};
 ghost use Rattle.levels.specs.Levels.{requesting as requests_of, ready as first_ready};
 
-use bits::Place as Level;
+use crate::Level;
 
 // Level 2 is never recorded: it requests while the pin EXTINT is high and level 2 is enabled.
 pub fn requesting(recorded: &[bool; 8], mask: &[bool; 8], extint: bool) -> [bool; 8]

@@ -1,4 +1,4 @@
-use Rattle.std.proofs.Common.{rules, arith}
+use Rattle.std.proofs.Common.{arith}
 use Rattle.std.proofs.lemmas.Bool.Decides.{nat_tests}
 use Rattle.levels.proofs.Lowest.{lowest_below}
 use Rattle.levels.proofs.priority.lowest_below.Goals as goal
