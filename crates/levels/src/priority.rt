@@ -28,11 +28,13 @@ pub fn ready(requesting: &[bool; 8], service: &[bool; 8], nesting: bool) -> Opti
 pub(crate) fn lowest_of(set: &[bool; 8]) -> Option<Level>
     ensures { result ≡ lowest set.now }
 {
-    let place = set.iter().position(|on| *on)?;
-    Some(Level::new(place as u8))
+    set.iter()
+        .position(|on| *on)
+        .map(|place| Level::new(place as u8))
 }
 
 // The lowest requesting level, if its number is below that of every level in service.
+#[tactic(auto, using(crate::proofs::Lowest::lowest_below))]
 fn lowest_below(requests: &[bool; 8], service: &[bool; 8]) -> Option<Level>
     ensures { result ≡ lowest (below requests.now service.now) }
 {
