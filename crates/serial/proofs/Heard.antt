@@ -6,6 +6,7 @@ use Rattle.serial.specs.Receiving.{SoundReceiver, lasting, lessened, passed, qui
 use Rattle.serial.specs.declared.receiver.Receiving.{Receiving}
 use Rattle.serial.specs.declared.receiver.Receiver.{Receiver}
 use Rattle.serial.specs.declared.stage.Stage.TheVariants.{Idle, Start, Data, Parity, Stop}
+use Rattle.serial.proofs.Stages.{rest_in}
 
 -- A state that counts down, and tells nothing meanwhile.
 pub record Countdown (at : ℕ → Receiver) : Type 0 where
@@ -105,11 +106,7 @@ quiet_told rxd (Stop x) h = rw (lt-ltb 1 x.left (omega arith))
 
 -- what is left stays quiet
 pub quiet_rest : (p : Receiver) (n m : ℕ) → n + m ≤ quiet_ticks p → m ≤ quiet_ticks (lessened n p)
-quiet_rest Idle n m h = omega arith
-quiet_rest (Start x) n m h = omega arith
-quiet_rest (Data x place) n m h = omega arith
-quiet_rest (Parity x) n m h = omega arith
-quiet_rest (Stop x) n m h = omega arith
+quiet_rest = rest_in (λ s. s.left) lasting (λ n s. refl)
 
 pub quiet_sound : (p : Receiver) (n : ℕ) → SoundReceiver p → n ≤ quiet_ticks p → SoundReceiver (lessened n p)
 quiet_sound Idle n sound h = sound

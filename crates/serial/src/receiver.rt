@@ -158,6 +158,7 @@ impl Receiving {
         }
     }
 
+    #[tactic(auto, using(crate::proofs::Gathered::one_more))]
     fn with_bit(self, place: u8, rxd: bool) -> Receiving
         requires sound { SoundReceiving self place }
         requires place { place < self.form.length }

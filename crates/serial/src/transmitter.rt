@@ -194,8 +194,7 @@ impl Stage<Sending> {
 
 impl Sending {
     fn past_bit(self, place: u8) -> Stage<Sending>
-        requires sound { SoundSending self }
-        requires place { place < self.form.length }
+        requires { place < 8 }
         ensures value { result ≡ past_bit self place }
         ensures kept { SoundPhase result }
     {
@@ -207,7 +206,6 @@ impl Sending {
     }
 
     fn past_data(self) -> Stage<Sending>
-        requires { SoundSending self }
         ensures value { result ≡ past_data self }
         ensures kept { SoundPhase result }
     {
@@ -219,7 +217,6 @@ impl Sending {
     }
 
     fn stopping(self) -> Stage<Sending>
-        requires { SoundSending self }
         ensures value { result ≡ stopping self }
         ensures kept { SoundPhase result }
     {
@@ -227,7 +224,8 @@ impl Sending {
     }
 
     fn bit_long(self) -> Sending
-        ensures { result ≡ lasting self.form.ticks self }
+        ensures value { result ≡ lasting self.form.ticks self }
+        ensures kept { SoundSending result }
     {
         self.lasting(self.form.ticks())
     }
