@@ -90,6 +90,12 @@ quiet_heard w (Parity x) n sound h =
 quiet_heard w (Stop x) n sound h =
     rw add-zero at (counted w (Stop x) (λ l. Stop (lasting l x)) (stop_counts x) 0 x.left n (omega arith) (at_first w (Stop x)))
 
+pub quiet_after : (w : ℕ → Bool) (p : Receiver) (n : ℕ) → SoundReceiver p → n ≤ quiet_ticks p → after w n p ≡ lessened n p
+quiet_after w p n sound h = (quiet_heard w p n sound h).state
+
+pub quiet_silence : (w : ℕ → Bool) (p : Receiver) (n k : ℕ) → SoundReceiver p → n ≤ quiet_ticks p → k ≤ n → tells w k p ≡ None
+quiet_silence w p n k sound h = (quiet_heard w p n sound h).silent k
+
 -- ---- for callers that reason over many ticks
 
 -- a quiet tick takes one off

@@ -117,6 +117,7 @@ impl Receiver {
     }
 
     /// Lets as many ticks pass at once, in which no sample falls.
+    #[tactic(auto, using(crate::proofs::Heard::quiet_after, crate::proofs::Heard::quiet_silence))]
     pub fn skip(&mut self, ticks: u64)
         requires { ticks ≤ quiet_ticks self.old }
         ensures after { (w : ℕ → Bool) → self.new ≡ after_ticks w ticks self.old }

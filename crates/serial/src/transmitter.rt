@@ -122,6 +122,7 @@ impl Transmitter {
     }
 
     /// Lets as many ticks pass at once, in which nothing but counting happens.
+    #[tactic(auto, using(crate::proofs::Quiet::lessens))]
     pub fn skip(&mut self, ticks: u64)
         requires { ticks ≤ quiet_ticks self.old.phase }
         ensures { (form : Form) (cts : Bool) → self.new ≡ times ticks (ticked form cts) self.old }
