@@ -1,10 +1,10 @@
 -- Marks as text: numbers without padding, parts with a blank between them.
 use Rattle.std.specs.Prelude.{ℕ, cond, List, ◌++◌, codes, decimal}
-use Rattle.board.specs.declared.marks.Line.{Line}
-use Rattle.board.specs.declared.marks.Line.TheVariants.{TxD, RxD, Int}
-use Rattle.board.specs.declared.marks.WireMark.{WireMark}
-use Rattle.board.specs.declared.marks.ServiceMark.{ServiceMark}
-use Rattle.board.specs.declared.marks.ServiceMark.TheVariants.{Taken, Passed, Closed}
+use Rattle.marks.specs.declared.wires.Line.{Line}
+use Rattle.marks.specs.declared.wires.Line.TheVariants.{TxD, RxD, Int}
+use Rattle.marks.specs.declared.wires.WireMark.{WireMark}
+use Rattle.marks.specs.declared.services.ServiceMark.{ServiceMark}
+use Rattle.marks.specs.declared.services.ServiceMark.TheVariants.{Taken, Passed, Closed}
 
 abbrev pub line_name : Line → List ℕ
 line_name TxD = codes "TxD"

@@ -1,11 +1,11 @@
 -- The marks that changes of lines and service make.
 use Rattle.std.specs.Prelude.{ℕ, suc, Bool, true, false, cond, not, List, [], ◌∷◌, ◌++◌, Some, None, Option}
-use Rattle.board.specs.declared.marks.Line.{Line}
-use Rattle.board.specs.declared.marks.Line.TheVariants.{TxD, RxD, Int}
-use Rattle.board.specs.declared.marks.WireMark.{WireMark}
-use Rattle.board.specs.declared.marks.ServiceMark.{ServiceMark}
-use Rattle.board.specs.declared.marks.ServiceMark.TheVariants.{Taken, Passed, Closed}
-use Rattle.board.specs.declared.marks.Lines.{Lines}
+use Rattle.marks.specs.declared.wires.Line.{Line}
+use Rattle.marks.specs.declared.wires.Line.TheVariants.{TxD, RxD, Int}
+use Rattle.marks.specs.declared.wires.WireMark.{WireMark}
+use Rattle.marks.specs.declared.services.ServiceMark.{ServiceMark}
+use Rattle.marks.specs.declared.services.ServiceMark.TheVariants.{Taken, Passed, Closed}
+use Rattle.marks.specs.declared.wires.Lines.{Lines}
 
 -- whether two levels differ
 abbrev pub differ : Bool → Bool → Bool
