@@ -4,18 +4,17 @@ ghost use Rattle.timing.specs.Run.{times};
 ghost use Rattle.line.specs.Meaning.{shown, elapsed};
 ghost use Rattle.recorder.specs.Recording.{Extended, all_marked, recording};
 ghost use Rattle.muart.specs.Clock.{Still};
-ghost use Rattle.board.specs.Marks.{changes};
-ghost use Rattle.board.specs.Views.{view, lines_of, told_to, settled, clock_once, marks_between, span_marks, last_clock, Bounds};
+ghost use Rattle.marks.specs.Marks.{changes};
+ghost use Rattle.board.specs.Views.{view, lines_of, told_to, settled, clock_once, marks_between, span_marks, last_clock};
 
-use crate::inner::Inner;
-use crate::marks::{Lines, WireMark, mark_changes};
+use super::Board;
 use line::Partner;
+use marks::{Lines, WireMark, mark_changes};
 use muart::read::interrupts;
 use recorder::Recorder;
 
-impl<P: Partner> Inner<P> {
-    pub fn lines(&self) -> Lines
-        requires { Bounds self.now }
+impl<P: Partner> Board<P> {
+    pub(super) fn lines(&self) -> Lines
         ensures { result ≡ lines_of self.now.unit }
     {
         Lines {
@@ -27,9 +26,7 @@ impl<P: Partner> Inner<P> {
 
     // A changed TxD is heard.
     fn tell(&mut self, txd: bool)
-        requires { Bounds self.old }
         ensures view { view P.Partner.meaning self.new ≡ told_to txd (view P.Partner.meaning self.old) }
-        ensures bounds { Bounds self.new }
     {
         let level = self.unit.txd();
         if level != txd {
@@ -39,34 +36,28 @@ impl<P: Partner> Inner<P> {
 
     // A changed TxD is heard, and RxD takes the partner's level.
     fn join(&mut self, txd: bool)
-        requires { Bounds self.old }
         ensures view { view P.Partner.meaning self.new ≡ settled txd (view P.Partner.meaning self.old) }
-        ensures bounds { Bounds self.new }
     {
         self.tell(txd);
         self.unit.set_rxd(self.partner.level());
     }
 
     // How each clock and each accepted call ends. `before` are the lines before it.
-    pub fn settle(&mut self, before: Lines, wires: &mut Recorder<'_, WireMark>)
-        requires { Bounds self.old }
+    pub(super) fn settle(&mut self, before: Lines, wires: &mut Recorder<'_, WireMark>)
         ensures view { view P.Partner.meaning self.new ≡ settled before.txd (view P.Partner.meaning self.old) }
         ensures wires { recording wires.new ≡ all_marked (changes self.new.clock before (lines_of self.new.unit)) (recording wires.old) }
         ensures room { Extended wires.old wires.new }
-        ensures bounds { Bounds self.new }
     {
         self.join(before.txd);
         mark_changes(wires, self.clock, before, self.lines());
     }
 
     fn once(&mut self, wires: &mut Recorder<'_, WireMark>)
-        requires bounds { Bounds self.old }
         requires fits { self.old.clock < last_clock }
         ensures view { view P.Partner.meaning self.new ≡ clock_once (view P.Partner.meaning self.old) }
         ensures wires { recording wires.new ≡ all_marked (marks_between (view P.Partner.meaning self.old) (view P.Partner.meaning self.new)) (recording wires.old) }
         ensures room { Extended wires.old wires.new }
         ensures counted { self.new.clock ≡ self.old.clock + 1 }
-        ensures bounds { Bounds self.new }
     {
         let before = self.lines();
         self.clock += 1;
@@ -77,7 +68,6 @@ impl<P: Partner> Inner<P> {
 
     // How many clocks pass with no line changing and nothing recorded.
     fn quiet(&self) -> u64
-        requires { Bounds self.now }
         ensures still { (n : ℕ) → n ≤ result → Still n self.now.unit }
         ensures steady { 0 < result → self.now.unit.rest.serial.rxd ≡ shown (P.Partner.meaning self.now.partner) }
         ensures same { (n : ℕ) → n ≤ result → shown (elapsed n (P.Partner.meaning self.now.partner)) ≡ shown (P.Partner.meaning self.now.partner) }
@@ -91,7 +81,6 @@ impl<P: Partner> Inner<P> {
 
     // Many clocks in which no line changes and nothing is recorded.
     fn skip(&mut self, clocks: u64)
-        requires bounds { Bounds self.old }
         requires short { clocks ≤ 16777216 }
         requires fits { self.old.clock + clocks ≤ last_clock }
         requires still { (n : ℕ) → n ≤ clocks → Still n self.old.unit }
@@ -100,7 +89,6 @@ impl<P: Partner> Inner<P> {
         ensures view { view P.Partner.meaning self.new ≡ times clocks clock_once (view P.Partner.meaning self.old) }
         ensures silent { span_marks clocks (view P.Partner.meaning self.old) ≡ [] }
         ensures counted { self.new.clock ≡ self.old.clock + clocks }
-        ensures bounds { Bounds self.new }
     {
         self.clock += clocks;
         self.unit.skip(clocks);
@@ -108,14 +96,12 @@ impl<P: Partner> Inner<P> {
     }
 
     // Skips up to where something can happen, runs that clock, and goes on.
-    pub fn run(&mut self, clocks: u64, wires: &mut Recorder<'_, WireMark>)
-        requires bounds { Bounds self.old }
+    pub(super) fn run(&mut self, clocks: u64, wires: &mut Recorder<'_, WireMark>)
         requires short { clocks ≤ 16777216 }
         requires fits { self.old.clock + clocks ≤ last_clock }
         ensures view { view P.Partner.meaning self.new ≡ times clocks clock_once (view P.Partner.meaning self.old) }
         ensures wires { recording wires.new ≡ all_marked (span_marks clocks (view P.Partner.meaning self.old)) (recording wires.old) }
         ensures room { Extended wires.old wires.new }
-        ensures bounds { Bounds self.new }
     {
         let mut left = clocks;
         while left > 0 {

@@ -1,6 +1,6 @@
 use Rattle.std.proofs.Common.{arith, rules}
 use Rattle.board.proofs.Clocks.{none_still, none_same}
-use Rattle.board.proofs.inner.Inner.quiet.Goals as goal
+use Rattle.board.proofs.board.Board.quiet.Goals as goal
 
 pub returns-then-self-level : goal.returns-then-self-level
 returns-then-self-level g c = record {
@@ -11,6 +11,7 @@ returns-then-self-level g c = record {
 
 pub returns : goal.returns
 returns g c =
+    rw (← c.self.view_is)
     let some = c.quiet-steady.ensures.some in
     record {
       still = λ n h. c.horizon.ensures.still n (omega arith);
