@@ -35,6 +35,7 @@ impl<P: Partner> Board<P> {
     }
 
     // A changed TxD is heard, and RxD takes the partner's level.
+    #[tactic(auto, unfolding(crate::specs::Views::settled))]
     fn join(&mut self, txd: bool)
         ensures view { view P.Partner.meaning self.new ≡ settled txd (view P.Partner.meaning self.old) }
     {
@@ -52,6 +53,7 @@ impl<P: Partner> Board<P> {
         mark_changes(wires, self.clock, before, self.lines());
     }
 
+    #[tactic(auto, unfolding(crate::specs::Views::clock_once, crate::specs::Views::settled))]
     fn once(&mut self, wires: &mut Recorder<'_, WireMark>)
         requires fits { self.old.clock < last_clock }
         ensures view { view P.Partner.meaning self.new ≡ clock_once (view P.Partner.meaning self.old) }
