@@ -6,7 +6,7 @@ use Rattle.script.specs.declared.items.Fault.{Fault}
 use Rattle.script.specs.Lines.{Content, step, parsed}
 use Rattle.listing.specs.declared.lines.Line.{Line}
 use Rattle.listing.specs.Layout.{layout}
-use Rattle.registers.specs.declared.refusal.Refusal.{Refusal}
+use Rattle.refusals.specs.declared.refusal.Refusal.{Refusal}
 use Rattle.board.specs.Perform.{State}
 use Rattle.board.specs.Histories.{ran}
 use Rattle.bench.specs.Operations.{calls_of, last_listed, line_of}

@@ -4,9 +4,9 @@ use Rattle.script.specs.declared.items.Operation.{Operation}
 use Rattle.script.specs.declared.items.Operation.TheVariants.{Read, Write, Clocks, Pin, Acknowledge, AcknowledgeBoth, Reset, Look}
 use Rattle.listing.specs.declared.lines.Line.{Line}
 use Rattle.listing.specs.declared.lines.Verdict.TheVariants.{Accepted, Refused}
-use Rattle.registers.specs.declared.refusal.Refusal.{Refusal}
+use Rattle.refusals.specs.declared.refusal.Refusal.{Refusal}
 use Rattle.registers.specs.declared.latch.Latched.{Latched}
-use Rattle.registers.specs.Refusals.{number_of}
+use Rattle.refusals.specs.Refusals.{number_of}
 use Rattle.board.specs.Perform.{Call, read, write, pulse, first_pulse, second_pulse, pin, span, look, reset, Answer, done, byte, counts, refused, looked, answered, State, after}
 
 -- the bench selects the chip in every bus cycle

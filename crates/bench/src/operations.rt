@@ -11,7 +11,7 @@ use board::Board;
 use line::Loopback;
 use marks::Recorders;
 use registers::latch::Latched;
-use registers::refusal::Refusal;
+use refusals::Refusal;
 use script::Operation;
 
 #[tactic(auto, using(marks::proofs::Extending::both_extended_on))]

@@ -16,7 +16,7 @@ use board::Board;
 use line::Loopback;
 use listing::{Line, Verdict, write_line};
 use marks::Recorders;
-use registers::refusal::Refusal;
+use refusals::Refusal;
 use script::{Fault, Item, parse};
 
 // A script has no more lines than the listing's first five columns can number.

@@ -5,7 +5,7 @@ use Rattle.timing.proofs.Repeats.{times_add}
 use Rattle.timers.specs.Access.{counts_of}
 use Rattle.recorder.specs.Recording.{all_marked}
 use Rattle.recorder.proofs.Marks.{all_marked_append}
-use Rattle.registers.specs.declared.refusal.Refusal.{Refusal}
+use Rattle.refusals.specs.declared.refusal.Refusal.{Refusal}
 use Rattle.registers.specs.declared.register.Register.{Register}
 use Rattle.registers.specs.declared.words.Family.TheVariants.{I8085, I8086}
 use Rattle.registers.specs.declared.pins.Pin.{Pin}

@@ -15,7 +15,7 @@ use Rattle.timers.specs.declared.timers.Timers.{Timers}
 use Rattle.timers.specs.declared.modes.Fired.{Fired}
 use Rattle.serial.specs.declared.receiver.Reception.{Reception}
 use Rattle.serial.specs.Receiving.{told, fallen}
-use Rattle.registers.specs.declared.refusal.Refusal.{Refusal}
+use Rattle.refusals.specs.declared.refusal.Refusal.{Refusal}
 use Rattle.registers.specs.declared.register.Register.{Register}
 use Rattle.registers.specs.declared.register.Register.TheVariants.{Command1, Command2, Command3, Mode, Port1Control, Mask, InterruptAddress, Buffer, Pins, Timer, Status}
 use Rattle.registers.specs.declared.latch.Latched.{Latched}
@@ -28,16 +28,18 @@ use Rattle.muart.specs.declared.state.StandIn.{StandIn}
 use Rattle.registers.specs.Words.{family_of, bit_of}
 use Rattle.registers.specs.Bus.{strobed}
 use Rattle.muart.specs.State.{with_serial, with_sensitive, with_steps, with_prescaler, with_remainder, with_receiver, with_pins}
-use Rattle.timers.specs.Stepping.{stepped, firing, counted_two, firing_two, counted_three, firing_three}
-use Rattle.muart.specs.Firing.{request_if, fired_requests, biti_of, modes_of}
-use Rattle.muart.specs.Serial.{asks, reception_kept, serial_tick, txd_level, rate_in, form_in}
+use Rattle.timers.specs.declared.modes.Side.{Side}
+use Rattle.timers.specs.declared.modes.Side.TheVariants.{Even, Odd}
+use Rattle.timers.specs.Stepping.{stepped, firing, edge_counted, edge_firing}
+use Rattle.muart.specs.Firing.{asks, request_if, fired_requests, biti_of, modes_of}
+use Rattle.muart.specs.Serial.{reception_kept, serial_tick, txd_level, rate_in, form_in}
 use Rattle.muart.specs.Clock.{timers_moved, timer_step, divide_in, timed, rate_modulus, rated, internal_clock, prescale_in, clocked}
 use Rattle.timing.specs.Accumulator.{wraps, next}
 use Rattle.timing.proofs.Bare.{when_same}
 use Rattle.muart.specs.Reading.{ready_level, took, read_leaves, address_byte}
 use Rattle.muart.specs.Writing.{no_characters, stored, commanded3, write_answer, clears_nie, resets, no_level}
 use Rattle.muart.specs.Pulses.{pulse_level, second_answer}
-use Rattle.muart.specs.PinCalls.{set_outside, rise, fall, pin_set, pin_tested}
+use Rattle.muart.specs.PinCalls.{set_outside, counts, rise, fall, pin_set, pin_tested}
 use Rattle.registers.specs.Ports.{outside}
 use Rattle.board.specs.Views.{View, settled, stirred, clock_once}
 use Rattle.board.specs.Perform.{Call, read, write, pulse, first_pulse, second_pulse, pin, span, look, snapshot, reset, Answer, byte, done, State, after, start, answered, view_after, strobe_of, read_effect, store_effect, write_effect, pulse_effect, first_effect, second_effect, pin_effect, span_result, spanned, byte_answer, plain_answer, read_result, write_result, ended as call_ended}
@@ -275,12 +277,16 @@ stored_eight (Timer n) w s h = h
 stored_eight Status w s h = h
 
 -- a pin call
+edge_eight : (side : Side) (s : StandIn) → Eight s → Eight (counts side s)
+edge_eight side s h =
+    moved_eight (edge_counted side (modes_of s.rest.registers) s.rest.timers) (edge_firing side (modes_of s.rest.registers) s.rest.timers) s h
+
 rise_eight : (p : Pin) (s : StandIn) → Eight s → Eight (rise p s)
 rise_eight (Port1 n) s h =
     either_eight (eqb n 2) _ _
-    (moved_eight (counted_two (modes_of s.rest.registers) s.rest.timers) (firing_two (modes_of s.rest.registers) s.rest.timers) s h)
+    (edge_eight Even s h)
     (either_eight (eqb n 3) _ _
-    (moved_eight (counted_three (modes_of s.rest.registers) s.rest.timers) (firing_three (modes_of s.rest.registers) s.rest.timers) s h)
+    (edge_eight Odd s h)
     (either_eight (eqb n 7) _ _ (length_asked (biti_of s.rest.registers) 1 s.rest.mask s.sensitive.levels.requests ∙ h.0, h.1) h))
 rise_eight (Port2 n) s h = h
 rise_eight Cts s h = h

@@ -2,8 +2,8 @@
 use Rattle.std.proofs.Common.{◌≡◌, ℕ, zero, suc, ◌+◌, ◌≤◌, Bool, true, false, cond, ltb, Ok, Err, Result, sym, refl, ap, ◌∙◌, true≢false, add-zero, add-suc, suc-add, arith}
 use Rattle.std.proofs.lemmas.Bool.{le-ltb, ltb-false}
 use Rattle.timing.specs.Run.{times}
-use Rattle.registers.specs.declared.refusal.Refusal.{Refusal}
-use Rattle.registers.specs.declared.refusal.Refusal.TheVariants.{SpanTooLong, ClockPastEnd}
+use Rattle.refusals.specs.declared.refusal.Refusal.{Refusal}
+use Rattle.refusals.specs.declared.refusal.Refusal.TheVariants.{SpanTooLong, ClockPastEnd}
 use Rattle.board.specs.Views.{View, settled, clock_once, last_clock}
 use Rattle.board.specs.Perform.{plain_answer, longest_span, span_result, span, after}
 use Rattle.board.specs.Cuts.{accepted}

@@ -12,7 +12,7 @@ use Rattle.recorder.specs.Recording.{all_marked}
 use Rattle.recorder.proofs.Marks.{all_marked_append, kept_all}
 use Rattle.serial.specs.declared.receiver.Reception.{Reception}
 use Rattle.serial.specs.Receiving.{told as heard, fallen}
-use Rattle.registers.specs.declared.refusal.Refusal.{Refusal}
+use Rattle.refusals.specs.declared.refusal.Refusal.{Refusal}
 use Rattle.registers.specs.declared.register.Register.{Register}
 use Rattle.registers.specs.declared.register.Register.TheVariants as register
 use Rattle.registers.specs.declared.pins.Port.{Port}

@@ -5,8 +5,8 @@ use Rattle.timers.specs.Access.{counts_of}
 use Rattle.line.specs.Meaning.{Meaning, shown}
 use Rattle.recorder.specs.Recording.{Recording, recording, empty, all_marked}
 use Rattle.marks.specs.declared.recorders.Recorders.{Recorders}
-use Rattle.registers.specs.declared.refusal.Refusal.{Refusal}
-use Rattle.registers.specs.declared.refusal.Refusal.TheVariants.{SpanTooLong, ClockPastEnd}
+use Rattle.refusals.specs.declared.refusal.Refusal.{Refusal}
+use Rattle.refusals.specs.declared.refusal.Refusal.TheVariants.{SpanTooLong, ClockPastEnd}
 use Rattle.registers.specs.declared.register.Register.{Register}
 use Rattle.registers.specs.declared.latch.Latched.{Latched}
 use Rattle.registers.specs.declared.words.Family.TheVariants.{I8085, I8086}

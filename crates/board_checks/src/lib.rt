@@ -8,7 +8,7 @@ mod tests {
     use line::Loopback;
     use marks::Recorders;
     use registers::latch::Latched;
-    use registers::refusal::Refusal;
+    use refusals::Refusal;
     use std::test::Fail;
 
     fn number_of<T: Drop>(answer: Result<T, Refusal>) -> u8 {

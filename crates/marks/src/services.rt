@@ -4,6 +4,7 @@ ghost use Rattle.recorder.specs.Recording.{Extended, all_marked, recording};
 ghost use Rattle.marks.specs.Marks.{taken_marks, closed_marks};
 ghost use Rattle.marks.specs.Texts.{service_text};
 
+use levels::Level;
 use recorder::Recorder;
 use std::fmt;
 
@@ -33,7 +34,7 @@ pub fn mark_taken(
     services: &mut Recorder<'_, ServiceMark>,
     clock: u64,
     nesting: bool,
-    taken: Option<u8>,
+    taken: Option<Level>,
 )
     ensures view { recording services.new ≡ all_marked (taken_marks clock nesting taken) (recording services.old) }
     ensures room { Extended services.old services.new }
@@ -41,6 +42,7 @@ pub fn mark_taken(
     let Some(level) = taken else {
         return;
     };
+    let level = level.number();
     if nesting {
         services.mark(ServiceMark::Taken { clock, level });
     } else {

@@ -15,13 +15,10 @@ ghost use Rattle.board.specs.Perform.{read as read_call, write as write_call, pu
 use super::Board;
 use line::Partner;
 use marks::{Recorders, mark_closed, mark_taken};
-use muart::look::look;
 use muart::pulse::{Begun, Half};
-use muart::read::read;
 use muart::state::StandIn;
+use refusals::Refusal;
 use registers::latch::Latched;
-use registers::refusal::Refusal;
-use registers::words::Family;
 
 const LONGEST_SPAN: u64 = 16_777_216;
 
@@ -62,11 +59,10 @@ impl<P: Partner> Board<P> {
         ensures state { state P.Partner.meaning self.new recorders.new ≡ (perform (read_call latched) (state P.Partner.meaning self.old recorders.old)).0 }
         ensures room { BothExtended recorders.old recorders.new }
     {
-        let family = Family::selected(self.unit.rest.registers.command1);
-        let register = latched.strobe(family)?;
+        let register = latched.strobe(self.unit.family())?;
         let before = self.lines();
-        let nesting = self.unit.rest.registers.control.nie;
-        let reading = read(&self.unit.rest, &mut self.unit.sensitive, register);
+        let nesting = self.unit.nesting();
+        let reading = self.unit.read(register);
         mark_taken(&mut recorders.services, self.clock, nesting, reading.taken);
         self.settle(before, &mut recorders.wires);
         Ok(reading.byte)
@@ -83,8 +79,7 @@ impl<P: Partner> Board<P> {
         ensures state { state P.Partner.meaning self.new recorders.new ≡ (perform (write_call latched word) (state P.Partner.meaning self.old recorders.old)).0 }
         ensures room { BothExtended recorders.old recorders.new }
     {
-        let family = Family::selected(self.unit.rest.registers.command1);
-        let register = latched.strobe(family)?;
+        let register = latched.strobe(self.unit.family())?;
         let before = self.lines();
         let closed = self.unit.write(register, word)?;
         mark_closed(&mut recorders.services, self.clock, &closed);
@@ -99,7 +94,7 @@ impl<P: Partner> Board<P> {
         ensures room { BothExtended recorders.old recorders.new }
     {
         let before = self.lines();
-        let nesting = self.unit.rest.registers.control.nie;
+        let nesting = self.unit.nesting();
         let answer = self.unit.acknowledge()?;
         let taken = Some(answer.level);
         mark_taken(&mut recorders.services, self.clock, nesting, taken);
@@ -114,7 +109,7 @@ impl<P: Partner> Board<P> {
         ensures room { BothExtended recorders.old recorders.new }
     {
         let before = self.lines();
-        let nesting = self.unit.rest.registers.control.nie;
+        let nesting = self.unit.nesting();
         let Begun { half, level } = self.unit.begin_acknowledge()?;
         mark_taken(&mut recorders.services, self.clock, nesting, Some(level));
         self.settle(before, &mut recorders.wires);
@@ -150,7 +145,7 @@ impl<P: Partner> Board<P> {
     {
         let before = self.lines();
         let pin = self.unit.input_pin(code)?;
-        self.unit.set_level(pin, level);
+        self.unit.set_level(&pin, level);
         self.settle(before, &mut recorders.wires);
         Ok(())
     }
@@ -190,7 +185,7 @@ impl<P: Partner> Board<P> {
         ensures performed { (wires : Recording Wire) (services : Recording Service) → looked result place.new ≡ (perform (look_call registers.now place.old) (beside wires services (view P.Partner.meaning self.old))).1 }
         ensures state { (wires : Recording Wire) (services : Recording Service) → beside wires services (view P.Partner.meaning self.new) ≡ (perform (look_call registers.now place.old) (beside wires services (view P.Partner.meaning self.old))).0 }
     {
-        look(&self.unit.rest, &mut self.unit.sensitive, registers, place)
+        self.unit.look(registers, place)
     }
 
     // The five counts together.
@@ -199,6 +194,6 @@ impl<P: Partner> Board<P> {
         ensures performed { (wires : Recording Wire) (services : Recording Service) → counts result ≡ (perform snapshot_call (beside wires services (view P.Partner.meaning self.now))).1 }
         ensures state { (wires : Recording Wire) (services : Recording Service) → beside wires services (view P.Partner.meaning self.now) ≡ (perform snapshot_call (beside wires services (view P.Partner.meaning self.now))).0 }
     {
-        self.unit.rest.timers.snapshot()
+        self.unit.snapshot()
     }
 }

@@ -10,7 +10,6 @@ ghost use Rattle.board.specs.Views.{view, lines_of, told_to, settled, clock_once
 use super::Board;
 use line::Partner;
 use marks::{Lines, WireMark, mark_changes};
-use muart::read::interrupts;
 use recorder::Recorder;
 
 impl<P: Partner> Board<P> {
@@ -19,8 +18,8 @@ impl<P: Partner> Board<P> {
     {
         Lines {
             txd: self.unit.txd(),
-            rxd: self.unit.rest.serial.rxd,
-            int: interrupts(&self.unit.rest, &self.unit.sensitive),
+            rxd: self.unit.rxd(),
+            int: self.unit.interrupts(),
         }
     }
 
@@ -74,7 +73,7 @@ impl<P: Partner> Board<P> {
         ensures steady { 0 < result → self.now.unit.rest.serial.rxd ≡ shown (P.Partner.meaning self.now.partner) }
         ensures same { (n : ℕ) → n ≤ result → shown (elapsed n (P.Partner.meaning self.now.partner)) ≡ shown (P.Partner.meaning self.now.partner) }
     {
-        if self.unit.rest.serial.rxd != self.partner.level() {
+        if self.unit.rxd() != self.partner.level() {
             return 0;
         }
         let steady = self.partner.quiet() - 1;

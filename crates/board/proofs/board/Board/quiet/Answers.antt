@@ -2,8 +2,8 @@ use Rattle.std.proofs.Common.{arith, rules}
 use Rattle.board.proofs.Clocks.{none_still, none_same}
 use Rattle.board.proofs.board.Board.quiet.Goals as goal
 
-pub returns-then-self-level : goal.returns-then-self-level
-returns-then-self-level g c = record {
+pub returns-then-rxd-level : goal.returns-then-rxd-level
+returns-then-rxd-level g c = record {
   still = λ n h. none_still n _ h;
   steady = λ h. absurd (omega arith);
   same = λ n h. none_same n _ h;
