@@ -3,10 +3,9 @@ use Rattle.std.specs.Prelude.{ℕ, true, List, [], ◌∷◌, Ok, Err, Result, s
 use Rattle.script.specs.declared.items.Operation.{Operation}
 use Rattle.script.specs.declared.items.Operation.TheVariants.{Read, Write, Clocks, Pin, Acknowledge, AcknowledgeBoth, Reset, Look}
 use Rattle.listing.specs.declared.lines.Line.{Line}
-use Rattle.listing.specs.declared.lines.Verdict.TheVariants.{Accepted, Refused}
 use Rattle.refusals.specs.declared.refusal.Refusal.{Refusal}
 use Rattle.registers.specs.declared.latch.Latched.{Latched}
-use Rattle.refusals.specs.Refusals.{number_of}
+use Rattle.refusals.specs.declared.refusal.Refusal.TheVariants.{ScriptLine}
 use Rattle.board.specs.Perform.{Call, read, write, pulse, first_pulse, second_pulse, pin, span, look, reset, Answer, done, byte, counts, refused, looked, answered, State, after}
 
 -- the bench selects the chip in every bus cycle
@@ -55,9 +54,8 @@ last_answer (a ∷ b ∷ more) = last_answer (b ∷ more)
 
 -- the listing line of an operation, with the clock number after it
 abbrev pub line_of : ℕ → Result ℕ Refusal → ℕ → Line
-line_of number (Ok b) clock = record { number = number; verdict = Accepted; answer = b; last = clock }
-line_of number (Err e) clock = record { number = number; verdict = Refused; answer = number_of e; last = clock }
+line_of number answer clock = record { number = number; answer = answer; last = clock }
 
 -- the listing line of a script line that cannot stand: refusal 13, and the first column that cannot stand
 abbrev pub fault_line : ℕ → ℕ → Line
-fault_line number column = record { number = number; verdict = Refused; answer = 13; last = column }
+fault_line number column = record { number = number; answer = Err ScriptLine; last = column }

@@ -10,8 +10,8 @@ ghost use Rattle.bench.specs.Operations.{calls_of, listed, last_listed};
 use board::Board;
 use line::Loopback;
 use marks::Recorders;
-use registers::latch::Latched;
 use refusals::Refusal;
+use registers::latch::Latched;
 use script::Operation;
 
 #[tactic(auto, using(marks::proofs::Extending::both_extended_on))]

@@ -1,5 +1,5 @@
 // Running a script line by line.
-ghost use Rattle.std.specs.Prelude.{◌≡◌, ◌^◌, ◌<◌, ◌≤◌, Ok};
+ghost use Rattle.std.specs.Prelude.{◌≡◌};
 ghost use Rattle.marks.specs.Both.{BothExtended};
 ghost use Rattle.line.specs.LastHeard.{plug};
 ghost use Rattle.script.specs.Lines.{content};
@@ -8,51 +8,18 @@ ghost use Rattle.board.specs.Histories.{ran};
 ghost use Rattle.board.specs.Cuts.{CutDoesNotShow};
 ghost use Rattle.board.specs.ServiceStack.{ServiceIsAStack};
 ghost use Rattle.board.specs.Draining.{RequestsDrain};
-ghost use Rattle.bench.specs.Operations.{line_of, fault_line};
 ghost use Rattle.bench.specs.Scripts.{said_calls, said_prints, line_calls, line_prints, StartRuns, ScriptIsAHistory, ScriptAnswers};
 
 use crate::operations::operate;
 use board::Board;
 use line::Loopback;
-use listing::{Line, Verdict, write_line};
+use listing::{Line, write_line};
 use marks::Recorders;
 use refusals::Refusal;
 use script::{Fault, Item, parse};
 
 // A script has no more lines than the listing's first five columns can number.
 const LAST_LINE: u32 = 99_999;
-
-fn line_of(number: u32, answer: Result<u8, Refusal>, clock: u64) -> Line
-    ensures { result ≡ line_of number answer clock }
-{
-    match answer {
-        Ok(answer) => Line {
-            number,
-            verdict: Verdict::Accepted,
-            answer,
-            last: clock,
-        },
-        Err(refusal) => Line {
-            number,
-            verdict: Verdict::Refused,
-            answer: refusal.number(),
-            last: clock,
-        },
-    }
-}
-
-// A line that cannot stand is listed with its first such column.
-fn fault_line(number: u32, fault: Fault) -> Line
-    ensures value { result ≡ fault_line number fault.column }
-    ensures narrow { result.last < 10 ^ 16 }
-{
-    Line {
-        number,
-        verdict: Verdict::Refused,
-        answer: Refusal::ScriptLine.number(),
-        last: fault.column as u64,
-    }
-}
 
 // Runs one line of a script, counted from 1, and gives what is listed of it. A line past the last is not run. Of a long
 // line its first 81 bytes are enough.
@@ -76,7 +43,7 @@ pub fn run_line(
     run_said(board, recorders, number, parse(line))
 }
 
-// Runs what a line says; a note does nothing and lists nothing.
+// Runs what a line says; a note does nothing and lists nothing. A line that cannot stand is listed with its first such column.
 fn run_said(
     board: &mut Board<Loopback>,
     recorders: &mut Recorders<'_>,
@@ -94,8 +61,17 @@ fn run_said(
         Ok(Item::Note(_)) => None,
         Ok(Item::Step(operation)) => {
             let answer = operate(board, recorders, operation);
-            Some(write_line(&line_of(number, answer, board.clock())))
+            let last = board.clock();
+            Some(write_line(&Line {
+                number,
+                answer,
+                last,
+            }))
         }
-        Err(fault) => Some(write_line(&fault_line(number, fault))),
+        Err(fault) => Some(write_line(&Line {
+            number,
+            answer: Err(Refusal::ScriptLine),
+            last: u64::from(fault.column),
+        })),
     }
 }
