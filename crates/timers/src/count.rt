@@ -4,7 +4,7 @@ ghost use Rattle.std.proofs.Common.{rules};
 ghost use Rattle.timing.specs.Run.{times, when};
 ghost use Rattle.timers.specs.Counts.{lowered, fires, distance, fires_within, behind, wait, far};
 
-// Longer than any count takes to request.
+// Longer than any count takes to request. A cap and no Option: callers take the least of it and other spans, and the horizon's law names it.
 pub const FAR: u64 = 16_777_216;
 
 // The steps until the count is 0 by a step from 1: a request falls within n steps exactly if n is as many.
