@@ -134,6 +134,7 @@ impl Receiver {
     }
 }
 
+// How much is gathered depends on the stage, and an enum has no model, so these steps ask for it themselves; a `Receiver` keeps it for its callers.
 impl Receiving {
     fn begun(form: Form) -> Receiving
         ensures value { result ≡ begun form }

@@ -156,6 +156,7 @@ impl Transmitter {
     }
 }
 
+// An enum has no model, so these steps say the bounds of a phase themselves; a `Transmitter` keeps them for its callers.
 impl Stage<Sending> {
     fn begun(form: Form, character: u8) -> Stage<Sending>
         ensures value { result ≡ begun form character }
