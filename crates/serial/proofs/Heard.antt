@@ -116,7 +116,7 @@ quiet_rest = rest_in (λ s. s.left) lasting (λ n s. refl)
 
 pub quiet_sound : (p : Receiver) (n : ℕ) → SoundReceiver p → n ≤ quiet_ticks p → SoundReceiver (lessened n p)
 quiet_sound Idle n sound h = sound
-quiet_sound (Start x) n sound h = ((sound.0.0, omega arith, omega arith, sound.0.3), sound.1)
+quiet_sound (Start x) n sound h = (sound.0, omega arith, omega arith, sound.3)
 quiet_sound (Data x place) n sound h = ((sound.0.0, omega arith, omega arith, sound.0.3), sound.1)
-quiet_sound (Parity x) n sound h = ((sound.0.0, omega arith, omega arith, sound.0.3), sound.1)
-quiet_sound (Stop x) n sound h = ((sound.0.0, omega arith, omega arith, sound.0.3), sound.1)
+quiet_sound (Parity x) n sound h = (sound.0, omega arith, omega arith, sound.3)
+quiet_sound (Stop x) n sound h = (sound.0, omega arith, omega arith, sound.3)

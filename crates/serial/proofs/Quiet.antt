@@ -76,7 +76,7 @@ quiet_idle (Stop s) n = refl
 
 pub quiet_sound : (p : Phase) (n : ℕ) → SoundPhase p → n ≤ quiet_ticks p → SoundPhase (lessened n p)
 quiet_sound Idle n sound h = sound
-quiet_sound (Start s) n sound h = ((sound.0.0, omega arith, omega arith), sound.1)
+quiet_sound (Start s) n sound h = (sound.0, omega arith, omega arith)
 quiet_sound (Data s place) n sound h = ((sound.0.0, omega arith, omega arith), sound.1)
-quiet_sound (Parity s) n sound h = ((sound.0.0, omega arith, omega arith), sound.1)
-quiet_sound (Stop s) n sound h = ((sound.0.0, omega arith, omega arith), sound.1)
+quiet_sound (Parity s) n sound h = (sound.0, omega arith, omega arith)
+quiet_sound (Stop s) n sound h = (sound.0, omega arith, omega arith)

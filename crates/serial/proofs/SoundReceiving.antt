@@ -11,7 +11,7 @@ use Rattle.serial.specs.declared.stage.Stage.TheVariants.{Idle, Start, Data, Par
 use Rattle.serial.proofs.Gathered.{one_more}
 
 pub idle_sound : SoundReceiver Idle
-idle_sound = (((omega arith, omega arith, omega arith, omega arith), omega arith, omega arith, omega arith), omega arith)
+idle_sound = tt
 
 -- one tick fewer is left, where it is not the last
 fewer : (x : Receiving) (n : ℕ) → SoundReceiving x n → ltb 1 x.left ≡ true → SoundReceiving (lasting (x.left - 1) x) n
@@ -23,26 +23,26 @@ past_bit_sound x place sound h =
     (λ e.
     let last : place + 1 ≡ x.form.length = omega (arith, ltb-false (place + 1) x.form.length e) in
     let whole : SoundReceiving x x.form.length = (sound.0, sound.1, sound.2, rw last at sound.3) in
-    cond_both (has_parity x.form.parity) (Parity x) (Stop x) SoundReceiver (λ _. (whole, omega arith)) (λ _. (whole, omega arith)))
+    cond_both (has_parity x.form.parity) (Parity x) (Stop x) SoundReceiver (λ _. whole) (λ _. whole))
 
 pub passed_sound : (rxd : Bool) (r : Receiver) → SoundReceiver r → SoundReceiver (passed rxd r)
 passed_sound rxd Idle sound = sound
 passed_sound rxd (Start x) sound =
-    cond_both (ltb 1 x.left) (Start (lasting (x.left - 1) x)) _ SoundReceiver (λ e. (fewer x 0 sound.0 e, sound.1))
-    (λ e. cond_both rxd Idle (Data (bit_long x) 0) SoundReceiver (λ _. idle_sound) (λ _. ((sound.0.0, omega arith, omega arith, sound.0.3), omega arith)))
+    cond_both (ltb 1 x.left) (Start (lasting (x.left - 1) x)) _ SoundReceiver (λ e. fewer x 0 sound e)
+    (λ e. cond_both rxd Idle (Data (bit_long x) 0) SoundReceiver (λ _. idle_sound) (λ _. ((sound.0, omega arith, omega arith, sound.3), omega arith)))
 passed_sound rxd (Data x place) sound =
     cond_both (ltb 1 x.left) (Data (lasting (x.left - 1) x) place) (past_bit (with_bit place rxd x) place) SoundReceiver
     (λ e. (fewer x place sound.0 e, sound.1))
     (λ e. past_bit_sound (with_bit place rxd x) place (sound.0.0, omega arith, omega arith, one_more x.character place rxd sound.0.3) sound.1)
 passed_sound rxd (Parity x) sound =
-    cond_both (ltb 1 x.left) (Parity (lasting (x.left - 1) x)) (Stop (with_parity rxd x)) SoundReceiver (λ e. (fewer x x.form.length sound.0 e, sound.1))
-    (λ e. ((sound.0.0, omega arith, omega arith, sound.0.3), sound.1))
+    cond_both (ltb 1 x.left) (Parity (lasting (x.left - 1) x)) (Stop (with_parity rxd x)) SoundReceiver (λ e. fewer x x.form.length sound e)
+    (λ e. (sound.0, omega arith, omega arith, sound.3))
 passed_sound rxd (Stop x) sound =
-    cond_both (ltb 1 x.left) (Stop (lasting (x.left - 1) x)) Idle SoundReceiver (λ e. (fewer x x.form.length sound.0 e, sound.1)) (λ e. idle_sound)
+    cond_both (ltb 1 x.left) (Stop (lasting (x.left - 1) x)) Idle SoundReceiver (λ e. fewer x x.form.length sound e) (λ e. idle_sound)
 
 pub heard_sound : (event : Event) (r : Receiver) → SoundEvent event → SoundReceiver r → SoundReceiver (heard event r)
 heard_sound (Tick rxd) r good sound = passed_sound rxd r sound
-heard_sound (Fall form) Idle good sound = ((good, omega arith, omega arith, omega arith), omega arith)
+heard_sound (Fall form) Idle good sound = (good, omega arith, omega arith, omega arith)
 heard_sound (Fall form) (Start x) good sound = sound
 heard_sound (Fall form) (Data x place) good sound = sound
 heard_sound (Fall form) (Parity x) good sound = sound

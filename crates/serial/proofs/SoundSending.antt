@@ -18,22 +18,22 @@ short_stops OneAndHalf s = omega arith
 short_stops Two s = omega arith
 
 pub idle_sound : SoundPhase Idle
-idle_sound = (((omega arith, omega arith, omega arith, omega arith), omega arith, omega arith), omega arith)
+idle_sound = tt
 
 pub offered_sound : (form : Form) (cts : Bool) (b : Option ℕ) → SoundForm form → SoundTransmitter (offered form cts b)
 offered_sound form cts None sound = idle_sound
 offered_sound form true (Some c) sound = idle_sound
-offered_sound form false (Some c) sound = ((sound, omega arith, omega arith), omega arith)
+offered_sound form false (Some c) sound = (sound, omega arith, omega arith)
 
 stopping_sound : (s : Sending) → SoundSending s → SoundPhase (stopping s)
 stopping_sound s sound =
-    ((sound.0, omega (arith, long_stops s.form.stops s.form.ticks), omega (arith, short_stops s.form.stops s.form.ticks)), omega arith)
+    (sound.0, omega (arith, long_stops s.form.stops s.form.ticks), omega (arith, short_stops s.form.stops s.form.ticks))
 
 past_bit_sound : (s : Sending) (place : ℕ) → SoundSending s → SoundPhase (past_bit s place)
 past_bit_sound s place sound =
     cond_both (ltb (place + 1) s.form.length) (Data (bit_long s) (place + 1)) (past_data s) SoundPhase
     (λ e. ((sound.0, omega arith, omega arith), ltb-true (place + 1) s.form.length e))
-    (λ e. cond_both (has_parity s.form.parity) (Parity (bit_long s)) (stopping s) SoundPhase (λ _. ((sound.0, omega arith, omega arith), omega arith)) (λ _. stopping_sound s sound))
+    (λ e. cond_both (has_parity s.form.parity) (Parity (bit_long s)) (stopping s) SoundPhase (λ _. (sound.0, omega arith, omega arith)) (λ _. stopping_sound s sound))
 
 module _ (s : Sending) (sound : SoundSending s) where
   -- one tick fewer is left, where it is not the last
@@ -43,12 +43,12 @@ module _ (s : Sending) (sound : SoundSending s) where
 pub passed_sound : (p : Phase) → SoundPhase p → SoundPhase (passed p)
 passed_sound Idle sound = sound
 passed_sound (Start s) sound =
-    cond_both (ltb 1 s.left) (Start (lasting (s.left - 1) s)) (Data (bit_long s) 0) SoundPhase (λ e. (fewer s sound.0 e, sound.1)) (λ e. ((sound.0.0, omega arith, omega arith), omega arith))
+    cond_both (ltb 1 s.left) (Start (lasting (s.left - 1) s)) (Data (bit_long s) 0) SoundPhase (λ e. fewer s sound e) (λ e. ((sound.0, omega arith, omega arith), omega arith))
 passed_sound (Data s place) sound =
     cond_both (ltb 1 s.left) (Data (lasting (s.left - 1) s) place) (past_bit s place) SoundPhase (λ e. (fewer s sound.0 e, sound.1)) (λ e. past_bit_sound s place sound.0)
 passed_sound (Parity s) sound =
-    cond_both (ltb 1 s.left) (Parity (lasting (s.left - 1) s)) (stopping s) SoundPhase (λ e. (fewer s sound.0 e, sound.1)) (λ e. stopping_sound s sound.0)
-passed_sound (Stop s) sound = cond_both (ltb 1 s.left) (Stop (lasting (s.left - 1) s)) Idle SoundPhase (λ e. (fewer s sound.0 e, sound.1)) (λ e. idle_sound)
+    cond_both (ltb 1 s.left) (Parity (lasting (s.left - 1) s)) (stopping s) SoundPhase (λ e. fewer s sound e) (λ e. stopping_sound s sound)
+passed_sound (Stop s) sound = cond_both (ltb 1 s.left) (Stop (lasting (s.left - 1) s)) Idle SoundPhase (λ e. fewer s sound e) (λ e. idle_sound)
 
 pub ticked_sound : (form : Form) (cts : Bool) (t : Transmitter) → SoundForm form → SoundTransmitter t → SoundTransmitter (ticked form cts t)
 ticked_sound form cts t good sound =

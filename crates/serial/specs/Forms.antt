@@ -23,10 +23,6 @@ form_of command1 command2 = record { length = 8 - command1 / 64; parity = parity
 abbrev pub SoundForm : Form → Type 0
 SoundForm f = (5 ≤ f.length) × (f.length ≤ 8) × (32 ≤ f.ticks) × (f.ticks ≤ 64)
 
--- The form of the fewest ticks.
-abbrev pub shortest : Form
-shortest = record { length = 5; parity = None; stops = One; ticks = 32 }
-
 -- A character is shortened to its length.
 abbrev pub masked : Form → ℕ → ℕ
 masked f c = c % 2 ^ f.length

@@ -1,6 +1,6 @@
 -- What the receiver does.
 use Rattle.std.specs.Prelude.{ℕ, ◌+◌, ◌-◌, ◌/◌, ◌^◌, ◌<◌, ◌≤◌, Bool, true, false, cond, not, ◌||◌, Some, None, Option, ◌==◌, nat_lt}
-use Rattle.serial.specs.Forms.{SoundForm, parity_bit, has_parity, shortest}
+use Rattle.serial.specs.Forms.{SoundForm, parity_bit, has_parity}
 use Rattle.serial.specs.Stages.{lessened_in, quiet_in}
 use Rattle.serial.specs.declared.form.Form.{Form}
 use Rattle.serial.specs.declared.receiver.Receiving.{Receiving}
@@ -15,33 +15,13 @@ use Rattle.serial.specs.declared.receiver.Reception.TheVariants.{Break, Characte
 abbrev pub SoundReceiving : Receiving → ℕ → Type 0
 SoundReceiving r n = SoundForm r.form × (1 ≤ r.left) × (r.left ≤ 64) × (r.character < 2 ^ n)
 
--- What a receiver receives; an idle one counts as having 0 in the shortest form, with one tick left.
-abbrev pub receiving_of : Receiver → Receiving
-receiving_of Idle = record { form = shortest; character = 0; parity = false; left = 1 }
-receiving_of (Start r) = r
-receiving_of (Data r place) = r
-receiving_of (Parity r) = r
-receiving_of (Stop r) = r
-
--- How many data bits are gathered: a data state waits for the bit at its place.
-abbrev pub gathered_of : Receiver → ℕ
-gathered_of Idle = 0
-gathered_of (Start r) = 0
-gathered_of (Data r place) = place
-gathered_of (Parity r) = r.form.length
-gathered_of (Stop r) = r.form.length
-
--- The data bits gathered stay below this: a data state lacks one of the character's at least.
-abbrev pub limit_of : Receiver → ℕ
-limit_of Idle = 1
-limit_of (Start r) = 1
-limit_of (Data r place) = r.form.length
-limit_of (Parity r) = r.form.length + 1
-limit_of (Stop r) = r.form.length + 1
-
--- A receiver receives within its bounds, and below its limit; said without cases, so that a ghost field can hold it.
+-- A receiver receives within its bounds, and a data state waits for the bit at its place, so that one of the character's is missing.
 abbrev pub SoundReceiver : Receiver → Type 0
-SoundReceiver r = SoundReceiving (receiving_of r) (gathered_of r) × (gathered_of r < limit_of r)
+SoundReceiver Idle = Unit {0}
+SoundReceiver (Start r) = SoundReceiving r 0
+SoundReceiver (Data r place) = SoundReceiving r place × (place < r.form.length)
+SoundReceiver (Parity r) = SoundReceiving r r.form.length
+SoundReceiver (Stop r) = SoundReceiving r r.form.length
 
 -- A fall gives a sound form.
 abbrev pub SoundEvent : Event → Type 0

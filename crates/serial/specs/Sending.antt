@@ -1,6 +1,6 @@
 -- What the transmitter does.
 use Rattle.std.specs.Prelude.{ℕ, ◌+◌, ◌-◌, ◌<◌, ◌≤◌, Bool, true, false, cond, not, Some, None, Option, nat_lt}
-use Rattle.serial.specs.Forms.{SoundForm, masked, parity_bit, has_parity, shortest, stop_ticks}
+use Rattle.serial.specs.Forms.{SoundForm, masked, parity_bit, has_parity, stop_ticks}
 use Rattle.serial.specs.Frames.{bit}
 use Rattle.serial.specs.Stages.{lessened_in, quiet_in}
 use Rattle.serial.specs.declared.form.Form.{Form}
@@ -17,33 +17,13 @@ Phase = Stage Sending
 abbrev pub SoundSending : Sending → Type 0
 SoundSending s = SoundForm s.form × (1 ≤ s.left) × (s.left ≤ 128)
 
--- What a phase sends; an idle one counts as sending 0 in the shortest form, with one tick left.
-abbrev pub sending_of : Phase → Sending
-sending_of Idle = record { form = shortest; character = 0; left = 1 }
-sending_of (Start s) = s
-sending_of (Data s place) = s
-sending_of (Parity s) = s
-sending_of (Stop s) = s
-
--- Which of its bits a phase is at.
-abbrev pub place_of : Phase → ℕ
-place_of Idle = 0
-place_of (Start s) = 0
-place_of (Data s place) = place
-place_of (Parity s) = 0
-place_of (Stop s) = 0
-
--- How many bits a phase has: a data phase those of the character, and any other one.
-abbrev pub places_of : Phase → ℕ
-places_of Idle = 1
-places_of (Start s) = 1
-places_of (Data s place) = s.form.length
-places_of (Parity s) = 1
-places_of (Stop s) = 1
-
--- A phase sends within its bounds, and at one of its bits; said without cases, so that a ghost field can hold it.
+-- A phase sends within its bounds, and a data phase is at one of the character's bits.
 abbrev pub SoundPhase : Phase → Type 0
-SoundPhase p = SoundSending (sending_of p) × (place_of p < places_of p)
+SoundPhase Idle = Unit {0}
+SoundPhase (Start s) = SoundSending s
+SoundPhase (Data s place) = SoundSending s × (place < s.form.length)
+SoundPhase (Parity s) = SoundSending s
+SoundPhase (Stop s) = SoundSending s
 
 -- Any buffer is sound.
 abbrev pub SoundTransmitter : Transmitter → Type 0

@@ -106,6 +106,7 @@ impl Form {
     }
 }
 
+// `of`, here and for the stops, and not `From`: a byte does not say which command it is.
 impl Parity {
     fn of(command2: u8) -> Option<Parity>
         ensures { result ≡ parity_of command2 }

@@ -7,9 +7,6 @@ const BAUD: [u32; 16] = [
     0, 0, 0, 19200, 9600, 4800, 2400, 1200, 600, 300, 200, 150, 110, 100, 75, 50,
 ];
 
-/// How many ticks an idle part may be skipped at once.
-pub const FAR: u64 = 16_777_216;
-
 /// What each internal clock adds to the rate's remainder: baud times the ticks to a bit.
 pub fn rate_step(command2: u8) -> u32
     ensures value { result ≡ rate_step command2 }

@@ -119,7 +119,7 @@ impl Receiver {
     /// Lets as many ticks pass at once, in which no sample falls.
     #[tactic(auto, using(crate::proofs::Heard::quiet_after, crate::proofs::Heard::quiet_silence))]
     pub fn skip(&mut self, ticks: u64)
-        requires { ticks ≤ quiet_ticks self.old }
+        requires quiet { ticks ≤ quiet_ticks self.old }
         ensures after { (w : ℕ → Bool) → self.new ≡ after_ticks w ticks self.old }
         ensures silent { (w : ℕ → Bool) (k : ℕ) → k ≤ ticks → tells w k self.old ≡ Nothing }
     {
@@ -134,6 +134,7 @@ impl Receiver {
     }
 }
 
+// How much is gathered depends on the stage, and an enum has no model, so these steps ask for it themselves; a `Receiver` keeps it for its callers.
 impl Receiving {
     fn begun(form: Form) -> Receiving
         ensures value { result ≡ begun form }

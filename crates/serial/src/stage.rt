@@ -2,7 +2,8 @@
 ghost use Rattle.std.specs.Prelude.{◌≡◌, ℕ, ◌-◌};
 ghost use Rattle.serial.specs.Stages.{quiet_in, lessened_in};
 
-use crate::rate::FAR;
+// The horizon where nothing is under way. A number, not an `Option`: callers take the least of several horizons, and no skip is longer than this.
+const FAR: u64 = 16_777_216;
 
 /// A frame in one of its stages, which lasts so many ticks more.
 pub(crate) trait Lasting: Copy {

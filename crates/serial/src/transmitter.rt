@@ -124,8 +124,8 @@ impl Transmitter {
     /// Lets as many ticks pass at once, in which nothing but counting happens.
     #[tactic(auto, using(crate::proofs::Quiet::lessens))]
     pub fn skip(&mut self, ticks: u64)
-        requires { ticks ≤ quiet_ticks self.old.phase }
-        ensures { (form : Form) (cts : Bool) → self.new ≡ times ticks (ticked form cts) self.old }
+        requires quiet { ticks ≤ quiet_ticks self.old.phase }
+        ensures after { (form : Form) (cts : Bool) → self.new ≡ times ticks (ticked form cts) self.old }
     {
         self.phase = self.phase.lessened(ticks as u32);
     }
@@ -156,6 +156,7 @@ impl Transmitter {
     }
 }
 
+// An enum has no model, so these steps say the bounds of a phase themselves; a `Transmitter` keeps them for its callers.
 impl Stage<Sending> {
     fn begun(form: Form, character: u8) -> Stage<Sending>
         ensures value { result ≡ begun form character }
