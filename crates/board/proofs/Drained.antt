@@ -1,6 +1,7 @@
 -- Standing requests drain.
 use Rattle.std.proofs.Common.{◌≡◌, ℕ, zero, suc, ◌*◌, ◌<◌, ◌≤◌, Bool, true, false, cond, not, ◌&&◌, eqb, List, [], ◌∷◌, ◌++◌, map, length, get_or, drop, set, replicate, Some, None, Ok, Err, Option, Result, sym, refl, ap, ◌∙◌, subst, suc-le-suc, zero-le, le_of_suc-le-suc, not-suc-le-zero, arith, length-set}
 use lib.ListN.{length-map}
+use Rattle.std.proofs.Math.Seq.{drop-nil}
 use Rattle.std.specs.List.{AllByRecursion}
 use Rattle.std.proofs.lemmas.Bool.{both_ways}
 use Rattle.std.proofs.lemmas.List.{get_or-map, get_or-append-add}
@@ -44,6 +45,7 @@ use Rattle.registers.specs.Ports.{outside}
 use Rattle.board.specs.Views.{View, settled, stirred, clock_once}
 use Rattle.board.specs.Perform.{Call, read, write, pulse, first_pulse, second_pulse, pin, span, look, snapshot, reset, Answer, byte, done, State, after, start, answered, view_after, strobe_of, read_effect, store_effect, write_effect, pulse_effect, first_effect, second_effect, pin_effect, span_result, spanned, byte_answer, plain_answer, read_result, write_result, ended as call_ended}
 use Rattle.board.specs.Histories.{ran, answers}
+use Rattle.board.proofs.Choices.{either, length_ended, ran_append}
 use Rattle.board.specs.Draining.{end_word, address_read, EndsAt, ReadsAt, address_reads, draining, requesting_in, requests_now, expected, TakenInTime, Drains, RequestsDrain}
 
 -- clearing two places, in either order
@@ -81,11 +83,6 @@ all_closed (true ∷ ss) = end_behind (length ss) ss ∙ ap (λ t. false ∷ t) 
 all_closed (false ∷ ss) =
     end_behind (suc (length ss)) ss
     ∙ ap (λ t. false ∷ t) (times_suc (length ss) ended ss ∙ ap ended (all_closed ss) ∙ end_none (length ss))
-
-length_ended : (q : List Bool) → length (ended q) ≡ length q
-length_ended [] = refl
-length_ended (true ∷ q) = refl
-length_ended (false ∷ q) = ap suc (length_ended q)
 
 -- where a level stands among the levels of a set
 record Placed (n : ℕ) (ls : List ℕ) : Type 0 where
@@ -148,30 +145,18 @@ lowest_first (suc k) q = ap (λ t. byte (address_byte (lowest q)) ∷ done ∷ t
     at None e c = (λ i. byte 255 ∷ done ∷ expected k (levels (sym c i))) ∙ (λ i. byte 255 ∷ done ∷ expected k (e i)) ∙ ap (expected (suc k)) (sym e)
     at (Some l) e c = ap (expected (suc k)) (sym e)
 
-drop_none : (k : ℕ) → drop {A = ℕ} k [] ≡ []
-drop_none zero = refl
-drop_none (suc k) = refl
-
 -- k ENDs leave the levels but the lowest k
 levels_left : (k : ℕ) (q : List Bool) → levels (times k ended q) ≡ drop k (levels q)
 levels_left zero q = refl
 levels_left (suc k) q = levels_left k (ended q) ∙ at (lowest q) (closes q) (clears q)
   where
     at : (o : Option ℕ) → Closed o q (ended q) → Clears o q (ended q) → drop k (levels (ended q)) ≡ drop (suc k) (levels q)
-    at None e c = ap (λ t. drop k (levels t)) (sym c) ∙ ap (drop k) e ∙ drop_none k ∙ ap (drop (suc k)) (sym e)
+    at None e c = ap (λ t. drop k (levels t)) (sym c) ∙ ap (drop k) e ∙ drop-nil k ∙ ap (drop (suc k)) (sym e)
     at (Some l) e c = ap (drop (suc k)) (sym e)
-
-ran_append : (a b : List Call) (s : State) → ran (a ++ b) s ≡ ran b (ran a s)
-ran_append [] b s = refl
-ran_append (c ∷ a) b s = ran_append a b (after c s)
 
 -- there are eight places for requests and for service
 abbrev Eight : StandIn → Type 0
 Eight s = (length s.sensitive.levels.requests ≡ 8) × (length s.sensitive.levels.service ≡ 8)
-
-either_eight : (b : Bool) (x y : StandIn) → Eight x → Eight y → Eight (cond b x y)
-either_eight true x y h k = h
-either_eight false x y h k = k
 
 length_asked : (on : Bool) (l : ℕ) (mask q : List Bool) → length (request_if on l mask q) ≡ length q
 length_asked false l mask q = refl
@@ -207,12 +192,12 @@ tick_eight s h = kept_eight (told s.rest.serial.rxd s.rest.serial.receiver) _ (l
 timed_eight : (s : StandIn) → Eight s → Eight (timed s)
 timed_eight s h =
     let x = with_steps (next 1 (divide_in s) s.rest.dividers.steps.at) s in
-    either_eight (wraps 1 (divide_in s) s.rest.dividers.steps.at) (timer_step x) x (step_eight x h) h
+    either Eight (wraps 1 (divide_in s) s.rest.dividers.steps.at) (timer_step x) x (step_eight x h) h
 
 rated_eight : (s : StandIn) → Eight s → Eight (rated s)
 rated_eight s h =
     let x = with_remainder (next (rate_in s) rate_modulus s.rest.dividers.remainder.at) s in
-    either_eight (wraps (rate_in s) rate_modulus s.rest.dividers.remainder.at) (serial_tick x) x (tick_eight x h) h
+    either Eight (wraps (rate_in s) rate_modulus s.rest.dividers.remainder.at) (serial_tick x) x (tick_eight x h) h
 
 internal_eight : (s : StandIn) → Eight s → Eight (internal_clock s)
 unfolding internal_clock
@@ -222,11 +207,7 @@ clocked_eight : (s : StandIn) → Eight s → Eight (clocked s)
 unfolding clocked
 clocked_eight s h =
     let x = with_prescaler (next 1 (prescale_in s) s.rest.dividers.prescaler.at) s in
-    either_eight (wraps 1 (prescale_in s) s.rest.dividers.prescaler.at) (internal_clock x) x (internal_eight x h) h
-
-eight_places : (b : Bool) (x y : List Bool) → length x ≡ 8 → length y ≡ 8 → length (cond b x y) ≡ 8
-eight_places true x y h k = h
-eight_places false x y h k = k
+    either Eight (wraps 1 (prescale_in s) s.rest.dividers.prescaler.at) (internal_clock x) x (internal_eight x h) h
 
 length_paired : (f : Bool → Bool → Bool) (a b : List Bool) → length (paired f a b) ≡ length a
 length_paired f [] b = refl
@@ -238,7 +219,7 @@ took_eight : (o : Option ℕ) (p : Pending) (nesting : Bool) → length p.reques
     → (length (taken o p nesting).requests ≡ 8) × (length (taken o p nesting).service ≡ 8)
 took_eight None p nesting r v = (r, v)
 took_eight (Some l) p nesting r v =
-    (length-set p.requests l false ∙ r, eight_places nesting (set p.service l true) p.service (length-set p.service l true ∙ v) v)
+    (length-set p.requests l false ∙ r, either (λ set. length set ≡ 8) nesting (set p.service l true) p.service (length-set p.service l true ∙ v) v)
 
 read_eight : (g : Register) (s : StandIn) → Eight s → Eight (with_sensitive (read_leaves g s.rest s.sensitive) s)
 read_eight Command1 s h = h
@@ -256,10 +237,10 @@ read_eight Status s h = h
 -- a write
 commanded_eight : (w : ℕ) (s : StandIn) → Eight s → Eight (commanded3 w s)
 commanded_eight w s h =
-    either_eight (resets w) _ _ (refl, refl) (
+    either Eight (resets w) _ _ (refl, refl) (
       h.0,
-      eight_places (clears_nie w) no_level (cond (bit_of 3 w) (ended s.sensitive.levels.service) s.sensitive.levels.service) refl
-          (eight_places (bit_of 3 w) (ended s.sensitive.levels.service) s.sensitive.levels.service (length_ended s.sensitive.levels.service ∙ h.1) h.1),
+      either (λ set. length set ≡ 8) (clears_nie w) no_level (cond (bit_of 3 w) (ended s.sensitive.levels.service) s.sensitive.levels.service) refl
+          (either (λ set. length set ≡ 8) (bit_of 3 w) (ended s.sensitive.levels.service) s.sensitive.levels.service (length_ended s.sensitive.levels.service ∙ h.1) h.1),
     )
 
 stored_eight : (g : Register) (w : ℕ) (s : StandIn) → Eight s → Eight (stored g w s)
@@ -283,24 +264,24 @@ edge_eight side s h =
 
 rise_eight : (p : Pin) (s : StandIn) → Eight s → Eight (rise p s)
 rise_eight (Port1 n) s h =
-    either_eight (eqb n 2) _ _
+    either Eight (eqb n 2) _ _
     (edge_eight Even s h)
-    (either_eight (eqb n 3) _ _
+    (either Eight (eqb n 3) _ _
     (edge_eight Odd s h)
-    (either_eight (eqb n 7) _ _ (length_asked (biti_of s.rest.registers) 1 s.rest.mask s.sensitive.levels.requests ∙ h.0, h.1) h))
+    (either Eight (eqb n 7) _ _ (length_asked (biti_of s.rest.registers) 1 s.rest.mask s.sensitive.levels.requests ∙ h.0, h.1) h))
 rise_eight (Port2 n) s h = h
 rise_eight Cts s h = h
 rise_eight Extint s h = h
 
 fall_eight : (p : Pin) (s : StandIn) → Eight s → Eight (fall p s)
-fall_eight (Port1 n) s h = either_eight (eqb n 5) _ _ h h
+fall_eight (Port1 n) s h = either Eight (eqb n 5) _ _ h h
 fall_eight (Port2 n) s h = h
 fall_eight Cts s h = (length_asked _ 5 s.rest.mask s.sensitive.levels.requests ∙ h.0, h.1)
 fall_eight Extint s h = h
 
 pin_eight : (p : Pin) (b : Bool) (s : StandIn) → Eight s → Eight (pin_set p b s)
-pin_eight p true s h = either_eight (outside s.rest.pins p) s _ h (rise_eight p (with_pins (set_outside p true s.rest.pins) s) h)
-pin_eight p false s h = either_eight (outside s.rest.pins p) _ s (fall_eight p (with_pins (set_outside p false s.rest.pins) s) h) h
+pin_eight p true s h = either Eight (outside s.rest.pins p) s _ h (rise_eight p (with_pins (set_outside p true s.rest.pins) s) h)
+pin_eight p false s h = either Eight (outside s.rest.pins p) _ s (fall_eight p (with_pins (set_outside p false s.rest.pins) s) h) h
 
 -- the last steps of a call change the serial side alone
 abbrev bared : StandIn → StandIn

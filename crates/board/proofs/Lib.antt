@@ -1,3 +1,4 @@
+pub mod Choices
 pub mod Clocks
 pub mod Cutting
 pub mod SingleCalls

@@ -37,6 +37,7 @@ use Rattle.marks.specs.Marks.{taken_marks, closed_from, closed_marks}
 use Rattle.board.specs.Views.{View, with_unit, settled, stirred, clock_once}
 use Rattle.board.specs.Perform.{Call, read, write, pulse, first_pulse, second_pulse, pin, span, look, snapshot, reset, State, strobe_of, read_service, read_effect, write_service, write_result, store_effect, write_effect, pulse_service, pulse_effect, first_effect, second_effect, pin_effect, span_result, spanned, ended, view_after, service_marks, after, start}
 use Rattle.board.specs.Histories.{ran, service_made}
+use Rattle.board.proofs.Choices.{either, length_ended}
 use Rattle.board.specs.ServiceStack.{replay, in_service, Member, Among, Lists, ServiceIsAStack}
 
 -- what goes on after a closed mark goes on if the mark named the latest level
@@ -75,11 +76,6 @@ levels_are : (set : List Bool) → levels set ≡ levels_from 0 set
 levels_are [] = refl
 levels_are (true ∷ set) = ap (λ ls. 0 ∷ map suc ls) (levels_are set) ∙ ap (λ ls. 0 ∷ ls) (one_on 0 set)
 levels_are (false ∷ set) = ap (map suc) (levels_are set) ∙ one_on 0 set
-
-length_ended : (set : List Bool) → length (end_lowest set) ≡ length set
-length_ended [] = refl
-length_ended (true ∷ set) = refl
-length_ended (false ∷ set) = ap suc (length_ended set)
 
 -- a set less no level is itself
 minus_none : (set : List Bool) (n : ℕ) → length set ≤ n → minus set (replicate n false) ≡ set
@@ -146,10 +142,6 @@ module _ (c : ℕ) where
 abbrev serves : StandIn → List Bool
 serves u = u.sensitive.levels.service
 
-same_either : {S X : Type 0} (b : Bool) (k : S → X) (x y : S) (z : X) → k x ≡ z → k y ≡ z → k (cond b x y) ≡ z
-same_either true k x y z e f = e
-same_either false k x y z e f = f
-
 -- a clock leaves them alone
 kept_same : (o : Option Reception) (u : StandIn) → serves (reception_kept o u) ≡ serves u
 kept_same None u = refl
@@ -186,14 +178,14 @@ clocked_same u =
 -- and so does an edge of a pin
 rise_same : (p : Pin) (u : StandIn) → serves (rise p u) ≡ serves u
 rise_same (Port1 n) u =
-    same_either (eqb n 2) serves (counts_two u) _ (serves u) refl
-    (same_either (eqb n 3) serves (counts_three u) _ (serves u) refl (same_either (eqb n 7) serves (calls_one u) u (serves u) refl refl))
+    either (λ x. serves x ≡ serves u) (eqb n 2) (counts_two u) _ refl
+    (either (λ x. serves x ≡ serves u) (eqb n 3) (counts_three u) _ refl (either (λ x. serves x ≡ serves u) (eqb n 7) (calls_one u) u refl refl))
 rise_same (Port2 n) u = refl
 rise_same Cts u = refl
 rise_same Extint u = refl
 
 fall_same : (p : Pin) (u : StandIn) → serves (fall p u) ≡ serves u
-fall_same (Port1 n) u = same_either (eqb n 5) serves (triggers u) u (serves u) refl refl
+fall_same (Port1 n) u = either (λ x. serves x ≡ serves u) (eqb n 5) (triggers u) u refl refl
 fall_same (Port2 n) u = refl
 fall_same Cts u = refl
 fall_same Extint u = refl
@@ -201,10 +193,10 @@ fall_same Extint u = refl
 pin_same : (p : Pin) (b : Bool) (u : StandIn) → serves (pin_set p b u) ≡ serves u
 pin_same p true u =
     let x = with_pins (set_outside p true u.rest.pins) u in
-    same_either (outside u.rest.pins p) serves u (rise p x) (serves u) refl (rise_same p x)
+    either (λ x. serves x ≡ serves u) (outside u.rest.pins p) u (rise p x) refl (rise_same p x)
 pin_same p false u =
     let x = with_pins (set_outside p false u.rest.pins) u in
-    same_either (outside u.rest.pins p) serves (fall p x) u (serves u) (fall_same p x) refl
+    either (λ x. serves x ≡ serves u) (outside u.rest.pins p) (fall p x) u (fall_same p x) refl
 
 -- the levels in service of a board
 abbrev serving : View → List Bool
@@ -257,14 +249,10 @@ free_taken P None begun refused takes = refused _
 free_taken P (Some l) None refused takes = takes l refl
 free_taken P (Some l) (Some k) refused takes = refused _
 
-either_way : (P : Result ℕ Refusal → Type 0) (b : Bool) (x y : Result ℕ Refusal) → P x → P y → P (cond b x y)
-either_way P true x y p q = p
-either_way P false x y p q = q
-
 pulse_taken : (P : Result ℕ Refusal → Type 0) (f : Family) (u : StandIn) → ((e : Refusal) → P (Err e)) → ((l : ℕ) → ready_level u.rest u.sensitive ≡ Some l → P (Ok l)) → P (pulse_level f u)
 pulse_taken P f u refused takes =
-    either_way P u.rest.registers.control.iae _ _
-    (either_way P (same_family f (family_of u.rest.registers.command1)) _ _ (free_taken P (ready_level u.rest u.sensitive) u.rest.begun refused takes) (refused _))
+    either P u.rest.registers.control.iae _ _
+    (either P (same_family f (family_of u.rest.registers.command1)) _ _ (free_taken P (ready_level u.rest u.sensitive) u.rest.begun refused takes) (refused _))
     (refused _)
 
 level_told : (v : View) (l : ℕ) → ready_level v.unit.rest v.unit.sensitive ≡ Some l → Told (pulse_service (Ok l) v) (serving v) (taken (ready_level v.unit.rest v.unit.sensitive) v.unit.sensitive.levels v.unit.rest.registers.control.nie).service
