@@ -1,5 +1,5 @@
 // The bench: a script on standard input, its listing on standard output.
-use crate::reading::read_line;
+use crate::reading::{ScriptLine, read_line};
 use bench::run_line;
 use board::Board;
 use line::Loopback;
@@ -17,13 +17,12 @@ pub fn list(rt: &HostRuntime) -> io::Result<()> {
     let mut recorders = Recorders::new(&mut no_wires, &mut no_services);
     let mut input = BufReader::new(rt.alloc(), rt.stdin())?;
     let mut output = BufWriter::new(rt.alloc(), rt.stdout())?;
-    let mut line = Vec::new(rt.alloc());
-    for number in 1..LAST_LINE + 1 {
-        if !read_line(&mut input, &mut line)? {
+    let mut buffer = ScriptLine::new(rt.alloc());
+    for number in 1..=LAST_LINE {
+        let Some(line) = read_line(&mut input, &mut buffer)? else {
             break;
-        }
-        let listed = run_line(&mut board, &mut recorders, number, line.as_slice());
-        if let Some(bytes) = listed {
+        };
+        if let Some(bytes) = run_line(&mut board, &mut recorders, number, line) {
             output.write_all(&bytes)?;
         }
     }

@@ -1,6 +1,6 @@
 // The marks of a run: a script on standard input, the marks of both recorders on standard output.
 use crate::lister::LAST_LINE;
-use crate::reading::read_line;
+use crate::reading::{ScriptLine, read_line};
 use bench::run_line;
 use board::Board;
 use line::Loopback;
@@ -36,12 +36,12 @@ pub fn print_marks(rt: &HostRuntime) -> io::Result<()> {
     let mut board = Board::power_up(Loopback::new());
     let mut recorders = Recorders::new(wire_room.as_mut_slice(), service_room.as_mut_slice());
     let mut input = BufReader::new(rt.alloc(), rt.stdin())?;
-    let mut line = Vec::new(rt.alloc());
-    for number in 1..LAST_LINE + 1 {
-        if !read_line(&mut input, &mut line)? {
+    let mut buffer = ScriptLine::new(rt.alloc());
+    for number in 1..=LAST_LINE {
+        let Some(line) = read_line(&mut input, &mut buffer)? else {
             break;
-        }
-        let _ = run_line(&mut board, &mut recorders, number, line.as_slice());
+        };
+        let _ = run_line(&mut board, &mut recorders, number, line);
     }
     let mut output = BufWriter::new(rt.alloc(), rt.stdout())?;
     print_each(&mut output, recorders.wires.marks())?;

@@ -1,27 +1,26 @@
-// Reading a script in bounded memory.
+// Reading lines in bounded memory.
+use script::LineBuffer;
 use std::io;
 use std::io::Read;
 
-// No rule looks past this many bytes of a line, so no more of it are kept.
-pub const KEPT_BYTES: usize = 96;
+// The first 81 bytes of a script's line say all that it does.
+pub type ScriptLine = LineBuffer<81>;
 
-// Reads one line without its line feed; false at the end of the input. A last line without a line feed counts if it
-// has a byte.
-pub fn read_line<R: Read>(input: &mut R, line: &mut Vec<u8>) -> io::Result<bool> {
+// Reads one line without its line feed, and gives the bytes kept of it; nothing at the end of the input. A last line
+// without a line feed counts if it has a byte.
+pub fn read_line<'a, R: Read, const KEPT: usize>(
+    input: &mut R,
+    line: &'a mut LineBuffer<KEPT>,
+) -> io::Result<Option<&'a [u8]>> {
     line.clear();
     let mut any = false;
-    for _ in 0..u64::MAX {
-        let mut byte = [0u8; 1];
-        if input.read(&mut byte)? == 0 {
-            return Ok(any);
-        }
+    for byte in input.by_ref().bytes() {
+        let byte = byte?;
         any = true;
-        if byte[0] == b'\n' {
-            return Ok(true);
+        if byte == b'\n' {
+            break;
         }
-        if line.len() < KEPT_BYTES {
-            line.push(byte[0])?;
-        }
+        line.push(byte)?;
     }
-    Ok(any)
+    Ok(if any { Some(line.bytes()) } else { None })
 }

@@ -6,6 +6,7 @@ use board::Board;
 use line::{Partner, Recorded};
 use marks::Recorders;
 use registers::latch::Latched;
+use script::LineBuffer;
 use std::io::BufReader;
 use std::{io, str};
 
@@ -18,15 +19,18 @@ const STEP: u64 = 64;
 
 const RECEIVED: u8 = 64;
 
+// So many bytes of a line that holds a wait are read.
+const WAIT_BYTES: usize = 96;
+
 fn read_waits(rt: &HostRuntime) -> anyhow::Result<Vec<u32>> {
     let mut input = BufReader::new(rt.alloc(), rt.stdin())?;
-    let mut line = Vec::new(rt.alloc());
+    let mut buffer = LineBuffer::<WAIT_BYTES>::new(rt.alloc());
     let mut waits = Vec::new(rt.alloc());
     for _ in 0..u64::MAX {
-        if !read_line(&mut input, &mut line)? {
+        let Some(line) = read_line(&mut input, &mut buffer)? else {
             break;
-        }
-        let Ok(text) = str::from_utf8(line.as_slice()) else {
+        };
+        let Ok(text) = str::from_utf8(line) else {
             return Err(anyhow!("a wait is no text"));
         };
         waits.push(text.parse::<u32>()?)?;

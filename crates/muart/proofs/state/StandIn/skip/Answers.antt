@@ -26,6 +26,6 @@ returns c = rw (← c.self.view_is) (record {
         steps = rw c.step_ratio.ensures at c.skip-steps.ensures.wrapped;
         ticks = rw c.rate_ratio.ensures at c.skip-ticks.ensures.wrapped;
       })
-      _ _ _ _ _ _ (rw c.self.view_is c.requires.still) (rw c.clock_ratio.ensures at c.skip-internals.ensures.state) (rw c.step_ratio.ensures at c.skip-steps.ensures.state) c.skip.ensures.state (rw c.rate_ratio.ensures at c.skip-ticks.ensures.state) c.skip-2.ensures c.skip-3.ensures.after;
+      _ _ _ _ _ _ (rw c.self.view_is c.requires.still) (rw c.clock_ratio.ensures at c.skip-internals.ensures.state) (rw c.step_ratio.ensures at c.skip-steps.ensures.state) c.skip.ensures.state (rw c.rate_ratio.ensures at c.skip-ticks.ensures.state) c.skip-2.ensures.after c.skip-3.ensures.after;
   ticks = λ n. tick_quotient n (the_view c.self.inside) c.self.invariant;
 })
