@@ -2,12 +2,9 @@
 use Rattle.std.proofs.Common.{◌≡◌, ℕ, suc, List, [], ◌∷◌, ◌++◌, sym, refl, ap, ◌∙◌}
 use Rattle.board.specs.Perform.{Call, State, after, answered}
 use Rattle.board.specs.Histories.{ran, answers}
+use Rattle.board.proofs.Choices.{ran_append}
 use Rattle.bench.specs.Scripts.{line_calls, script_calls, script_answers, ScriptIsAHistory, ScriptAnswers}
 use Rattle.bench.specs.Operations.{last_listed, last_answer}
-
-ran_append : (cs ds : List Call) (s : State) → ran (cs ++ ds) s ≡ ran ds (ran cs s)
-ran_append [] ds s = refl
-ran_append (c ∷ cs) ds s = ran_append cs ds (after c s)
 
 pub script_is_a_history : ScriptIsAHistory
 script_is_a_history n [] s = refl

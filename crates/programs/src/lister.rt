@@ -1,13 +1,11 @@
 // The bench: a script on standard input, its listing on standard output.
-use crate::reading::{ScriptLine, read_line};
+use crate::reading::each_line;
 use bench::run_line;
 use board::Board;
 use line::Loopback;
 use marks::Recorders;
 use std::io;
-use std::io::{BufReader, BufWriter, Write};
-
-pub const LAST_LINE: u32 = 99_999;
+use std::io::{BufWriter, Write};
 
 // The bench lists no marks, so its recorders have no room.
 pub fn list(rt: &HostRuntime) -> io::Result<()> {
@@ -15,16 +13,12 @@ pub fn list(rt: &HostRuntime) -> io::Result<()> {
     let mut no_wires = [];
     let mut no_services = [];
     let mut recorders = Recorders::new(&mut no_wires, &mut no_services);
-    let mut input = BufReader::new(rt.alloc(), rt.stdin())?;
     let mut output = BufWriter::new(rt.alloc(), rt.stdout())?;
-    let mut buffer = ScriptLine::new(rt.alloc());
-    for number in 1..=LAST_LINE {
-        let Some(line) = read_line(&mut input, &mut buffer)? else {
-            break;
-        };
-        if let Some(bytes) = run_line(&mut board, &mut recorders, number, line) {
-            output.write_all(&bytes)?;
+    each_line(rt, |number, line| {
+        match run_line(&mut board, &mut recorders, number, line) {
+            Some(listed) => output.write_all(&listed),
+            None => Ok(()),
         }
-    }
+    })?;
     output.flush()
 }

@@ -1,13 +1,12 @@
 // The marks of a run: a script on standard input, the marks of both recorders on standard output.
-use crate::lister::LAST_LINE;
-use crate::reading::{ScriptLine, read_line};
+use crate::reading::each_line;
 use bench::run_line;
 use board::Board;
 use line::Loopback;
 use marks::{Line, Recorders, ServiceMark, WireMark};
 use std::fmt::Display;
 use std::io;
-use std::io::{BufReader, BufWriter, Write};
+use std::io::{BufWriter, Write};
 
 // Room for so many marks of either kind.
 const ROOM: usize = 1_000_000;
@@ -35,14 +34,10 @@ pub fn print_marks(rt: &HostRuntime) -> io::Result<()> {
     let mut service_room = vec![in rt.alloc(); blank_service; ROOM]?;
     let mut board = Board::power_up(Loopback::new());
     let mut recorders = Recorders::new(wire_room.as_mut_slice(), service_room.as_mut_slice());
-    let mut input = BufReader::new(rt.alloc(), rt.stdin())?;
-    let mut buffer = ScriptLine::new(rt.alloc());
-    for number in 1..=LAST_LINE {
-        let Some(line) = read_line(&mut input, &mut buffer)? else {
-            break;
-        };
+    each_line(rt, |number, line| {
         let _ = run_line(&mut board, &mut recorders, number, line);
-    }
+        Ok(())
+    })?;
     let mut output = BufWriter::new(rt.alloc(), rt.stdout())?;
     print_each(&mut output, recorders.wires.marks())?;
     print_each(&mut output, recorders.services.marks())?;

@@ -1,10 +1,13 @@
 // Reading lines in bounded memory.
 use script::LineBuffer;
 use std::io;
-use std::io::Read;
+use std::io::{BufReader, Read};
 
-// The first 81 bytes of a script's line say all that it does.
-pub type ScriptLine = LineBuffer<81>;
+// A script has no more lines than a listing can number.
+const LAST_LINE: u32 = 99_999;
+
+// The first bytes of a script's line say all that it does.
+const SCRIPT_BYTES: usize = 81;
 
 // Reads one line without its line feed, and gives the bytes kept of it; nothing at the end of the input. A last line
 // without a line feed counts if it has a byte.
@@ -23,4 +26,22 @@ pub fn read_line<'a, R: Read, const KEPT: usize>(
         line.push(byte)?;
     }
     Ok(if any { Some(line.bytes()) } else { None })
+}
+
+// Hands the lines of the script on standard input to `run`, numbered from 1.
+pub fn each_line<F: FnMut(u32, &[u8]) -> io::Result<()> + Drop>(
+    rt: &HostRuntime,
+    mut run: F,
+) -> io::Result<()>
+    requires { F.IsAlwaysCallable run }
+{
+    let mut input = BufReader::new(rt.alloc(), rt.stdin())?;
+    let mut buffer = LineBuffer::<SCRIPT_BYTES>::new(rt.alloc());
+    for number in 1..=LAST_LINE {
+        let Some(line) = read_line(&mut input, &mut buffer)? else {
+            break;
+        };
+        run(number, line)?;
+    }
+    Ok(())
 }
