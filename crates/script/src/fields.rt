@@ -31,18 +31,17 @@ impl Columns {
     fn field(self, line: &[u8]) -> Result<u64, Fault>
         ensures { result ≡ field_of self.first self.last line.now }
     {
-        let mut number: u64 = 0;
-        let mut seen = false;
+        // The digits so far, or nothing before the first.
+        let mut number: Option<u64> = None;
         let mut bytes = line.get(self.first as usize - 1..).unwrap_or(&[]).iter();
         for column in self.first..self.last + 1 {
             let byte = *bytes.next().ok_or(Fault { column })?;
             if byte.is_ascii_digit() {
-                seen = true;
-                number = number * 10 + u64::from(byte - b'0');
-            } else if byte != b' ' || seen || column == self.last {
+                number = Some(number.unwrap_or(0) * 10 + u64::from(byte - b'0'));
+            } else if byte != b' ' || number.is_some() || column == self.last {
                 return Err(Fault { column });
             }
         }
-        Ok(number)
+        Ok(number.unwrap_or(0))
     }
 }

@@ -1,10 +1,10 @@
-use Rattle.std.proofs.Common.{◌≡◌, ◌-◌, ◌≤◌, ◌∷◌, true, false, sym, ◌∙◌, arith}
+use Rattle.std.proofs.Common.{◌≡◌, ◌-◌, ◌≤◌, ◌∷◌, true, false, is_some, unwrap_or, sym, ◌∙◌, arith}
 use Rattle.std.proofs.lemmas.Bool.Decides.{nat_tests}
 use Rattle.std.specs.Slice.Iter.{iter_rest}
 use Rattle.script.specs.Fields.{is_padding}
 use Rattle.script.proofs.Reading.{read_digit, read_blank, read_wrong, below_next, below_later}
 use Rattle.script.proofs.fields.Columns.field.Goals as goal
-use Rattle.script.proofs.fields.Columns.field.Goals.{In_ok-byte, then-is_ascii_digit, else-is_ascii_digit+else-byte-ne32+else-seen+else-column-self}
+use Rattle.script.proofs.fields.Columns.field.Goals.{In_ok-byte, then-byte-ne32-via-then-byte-ne32, then-byte-ne32-via-else-byte-ne32+then-is_some, then-byte-ne32-via-else-byte-ne32+else-is_some+then-column-self, then-is_ascii_digit, else-is_ascii_digit+else-byte-ne32+else-is_some+else-column-self}
 
 -- the line has a byte at the column
 stands : (c : In_ok-byte) → iter_rest c.loop-column.bytes ≡ c.in_ok-byte.field-0.now ∷ iter_rest c.next.new.self
@@ -14,8 +14,12 @@ pub returns-then-byte-ne32 : goal.returns-then-byte-ne32
 returns-then-byte-ne32 c =
     let at = c.loop-column in
     let byte = c.in_ok-byte.field-0.now in
-    let wrong : is_padding byte at.seen (c.args.self.last - at.column) ≡ false = grind (arith, nat_tests, c.then-byte-ne32.either) in
-    sym (read_wrong c.args.self.last at.column at.seen at.number (iter_rest at.bytes) (omega arith) byte _ (stands (goal.at.returns-then-byte-ne32 c).In_ok-byte) (sym c.if-is_ascii_digit.ensures.value) wrong) ∙ at.invariant.to_read
+    let wrong : is_padding byte (is_some at.number) (c.args.self.last - at.column) ≡ false = elim c.then-byte-ne32.branch [
+      | then-byte-ne32-via-then-byte-ne32 w ↦ grind (arith, nat_tests)
+      | then-byte-ne32-via-else-byte-ne32+then-is_some w ↦ let some : is_some at.number ≡ true = sym w.is_some.ensures ∙ w.if-is_some.true in grind (arith, nat_tests)
+      | then-byte-ne32-via-else-byte-ne32+else-is_some+then-column-self w ↦ grind (arith, nat_tests)
+    ] in
+    sym (read_wrong c.args.self.last at.column (is_some at.number) (unwrap_or at.number 0) (iter_rest at.bytes) (omega arith) byte _ (stands (goal.at.returns-then-byte-ne32 c).In_ok-byte) (sym c.if-is_ascii_digit.ensures.value) wrong) ∙ at.invariant.to_read
 
 pub loop-column-preserved : goal.loop-column-preserved
 loop-column-preserved c =
@@ -25,11 +29,12 @@ loop-column-preserved c =
     let is = stands (goal.at.loop-column-preserved c).In_ok-byte in
     elim c.if-is_ascii_digit.branch [
       | then-is_ascii_digit w ↦
-          let step = read_digit last at.column at.seen at.number (iter_rest at.bytes) (omega arith) byte _ is (sym w.if-is_ascii_digit.ensures.value) in
+          let step = read_digit last at.column (is_some at.number) (unwrap_or at.number 0) (iter_rest at.bytes) (omega arith) byte _ is (sym w.if-is_ascii_digit.ensures.value) in
           let small : byte - 48 ≤ 9 = omega (arith, w.if-is_ascii_digit.ensures.cases) in
-          simp (w.number-is, w.seen-is, w.from.ensures) (record { to_read = sym step ∙ at.invariant.to_read; small = below_next _ _ _ _ (omega arith) at.invariant.small small })
-      | else-is_ascii_digit+else-byte-ne32+else-seen+else-column-self w ↦
-          let blank : is_padding byte at.seen (last - at.column) ≡ true = grind (arith, nat_tests) in
-          let step = read_blank last at.column at.seen at.number (iter_rest at.bytes) (omega arith) byte _ is (sym w.if-is_ascii_digit.ensures.value) blank in
-          simp (w.number-is, w.seen-is, w.if-seen.false) (record { to_read = sym step ∙ at.invariant.to_read; small = below_later _ _ _ (omega arith) at.invariant.small })
+          simp (w.number-is, w.unwrap_or-then-is_ascii_digit.ensures, w.from.ensures) (record { to_read = sym step ∙ at.invariant.to_read; small = below_next _ _ _ _ (omega arith) at.invariant.small small })
+      | else-is_ascii_digit+else-byte-ne32+else-is_some+else-column-self w ↦
+          let none : is_some at.number ≡ false = sym w.is_some.ensures ∙ w.if-is_some.false in
+          let blank : is_padding byte (is_some at.number) (last - at.column) ≡ true = grind (arith, nat_tests) in
+          let step = read_blank last at.column (is_some at.number) (unwrap_or at.number 0) (iter_rest at.bytes) (omega arith) byte _ is (sym w.if-is_ascii_digit.ensures.value) blank in
+          simp (w.number-is, none) (record { to_read = sym step ∙ at.invariant.to_read; small = below_later _ _ _ (omega arith) at.invariant.small })
     ]
