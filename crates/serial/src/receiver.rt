@@ -62,7 +62,7 @@ impl Lasting for Receiving {
 
     ghost with_left = { lasting };
 
-    ghost set = { λ n r. refl };
+    ghost left_is_set = { λ n r. refl };
 
     fn left(self) -> u32 {
         self.left

@@ -23,7 +23,7 @@ pub(crate) trait Lasting: Copy {
         self.lasting(self.left().saturating_sub(ticks))
     }
 
-    ghost set: { (n : ℕ) (f : Self) → ticks_left (with_left n f) ≡ n };
+    ghost left_is_set: { (n : ℕ) (f : Self) → ticks_left (with_left n f) ≡ n };
 }
 
 #[derive(Clone, Copy)]

@@ -42,7 +42,7 @@ impl Lasting for Sending {
 
     ghost with_left = { lasting };
 
-    ghost set = { λ n s. refl };
+    ghost left_is_set = { λ n s. refl };
 
     fn left(self) -> u32 {
         self.left
