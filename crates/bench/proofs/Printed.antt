@@ -1,9 +1,9 @@
 -- What a line that is run prints and leaves.
-use Rattle.std.proofs.Common.{◌≡◌, ℕ, ◌≤◌, cond, ltb, List, [], Some, None, Ok, Result, sym, ap, ◌∙◌}
+use Rattle.std.proofs.Common.{◌≡◌, ℕ, ◌≤◌, cond, List, Some, None, Ok, Result, sym, ap, ◌∙◌}
 use Rattle.std.proofs.lemmas.Bool.{le-ltb}
 use Rattle.script.specs.declared.items.Operation.{Operation}
 use Rattle.script.specs.declared.items.Fault.{Fault}
-use Rattle.script.specs.Lines.{Content, step, parsed}
+use Rattle.script.specs.Lines.{Content, step}
 use Rattle.listing.specs.declared.lines.Line.{Line}
 use Rattle.listing.specs.Layout.{layout}
 use Rattle.registers.specs.declared.refusal.Refusal.{Refusal}
