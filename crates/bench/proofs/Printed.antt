@@ -3,7 +3,7 @@ use Rattle.std.proofs.Common.{◌≡◌, ℕ, ◌≤◌, cond, ltb, List, [], So
 use Rattle.std.proofs.lemmas.Bool.{le-ltb}
 use Rattle.script.specs.declared.items.Operation.{Operation}
 use Rattle.script.specs.declared.items.Fault.{Fault}
-use Rattle.script.specs.Lines.{Content, step, parsed}
+use Rattle.script.specs.Lines.{Content, step}
 use Rattle.listing.specs.declared.lines.Line.{Line}
 use Rattle.listing.specs.Layout.{layout}
 use Rattle.refusals.specs.declared.refusal.Refusal.{Refusal}

@@ -2,8 +2,8 @@
 
 #![tactic(auto)]
 
+mod bench;
 mod operations;
 mod runner;
 
-pub use operations::operate;
-pub use runner::run_line;
+pub use bench::Bench;

@@ -1,69 +1,65 @@
-// Running one operation.
+// The bench, and one operation run on it.
 ghost use Rattle.std.specs.Prelude.{◌≡◌, [], ◌∷◌};
 ghost use Rattle.marks.specs.Both.{BothExtended};
-ghost use Rattle.line.specs.LastHeard.{plug};
-ghost use Rattle.board.specs.Views.{view};
-ghost use Rattle.board.specs.Perform.{look, answered, state};
+ghost use Rattle.board.specs.Perform.{look, answered};
 ghost use Rattle.board.specs.Histories.{ran};
 ghost use Rattle.bench.specs.Operations.{calls_of, listed, last_listed};
+ghost use Rattle.bench.specs.Benches.{state_of};
 
-use board::Board;
-use line::Loopback;
-use marks::Recorders;
-use refusals::Refusal;
+use crate::bench::Bench;
 use registers::latch::Latched;
+use refusals::Refusal;
 use script::Operation;
 
-#[tactic(auto, using(marks::proofs::Extending::both_extended_on))]
-fn both_pulses(board: &mut Board<Loopback>, recorders: &mut Recorders<'_>) -> Result<u8, Refusal>
-    ensures answer { result ≡ last_listed (calls_of Operation.AcknowledgeBoth (state plug board.old recorders.old)) (state plug board.old recorders.old) }
-    ensures state { state plug board.new recorders.new ≡ ran (calls_of Operation.AcknowledgeBoth (state plug board.old recorders.old)) (state plug board.old recorders.old) }
-    ensures room { BothExtended recorders.old recorders.new }
-{
-    let half = board.begin_acknowledge(recorders)?;
-    board.finish_acknowledge(half, recorders)
-}
+impl<'a> Bench<'a> {
+    /// The byte that is listed of an accepted operation, 0 if it has none.
+    pub fn operate(&mut self, operation: Operation) -> Result<u8, Refusal>
+        ensures answer { result ≡ last_listed (calls_of operation (state_of self.old)) (state_of self.old) }
+        ensures state { state_of self.new ≡ ran (calls_of operation (state_of self.old)) (state_of self.old) }
+        ensures room { BothExtended self.old.recorders self.new.recorders }
+    {
+        let Bench { board, recorders } = self;
+        match operation {
+            Operation::Read { address } => board.read(Latched::new(address, true), recorders),
+            Operation::Write { address, byte } => {
+                board.write(Latched::new(address, true), byte, recorders)?;
+                Ok(0)
+            }
+            Operation::Clocks { span } => {
+                board.span(span, recorders)?;
+                Ok(0)
+            }
+            Operation::Pin { code, level } => {
+                board.set_pin(code, level, recorders)?;
+                Ok(0)
+            }
+            Operation::Acknowledge => board.acknowledge(recorders),
+            Operation::AcknowledgeBoth => self.both_pulses(),
+            Operation::Reset => {
+                board.reset(recorders);
+                Ok(0)
+            }
+            Operation::Look { register } => self.look_at(register),
+        }
+    }
 
-// One register by its number.
-fn look_at(board: &mut Board<Loopback>, register: u8) -> Result<u8, Refusal>
-    ensures answer { result ≡ listed (answered (look (register ∷ []) (0 ∷ [])) (view plug board.old)) }
-    ensures same { board.new ≡ board.old }
-{
-    let mut place = [0u8; 1];
-    board.look(&[register], &mut place)?;
-    Ok(place[0])
-}
+    #[tactic(auto, using(marks::proofs::Extending::both_extended_on))]
+    fn both_pulses(&mut self) -> Result<u8, Refusal>
+        ensures answer { result ≡ last_listed (calls_of Operation.AcknowledgeBoth (state_of self.old)) (state_of self.old) }
+        ensures state { state_of self.new ≡ ran (calls_of Operation.AcknowledgeBoth (state_of self.old)) (state_of self.old) }
+        ensures room { BothExtended self.old.recorders self.new.recorders }
+    {
+        let half = self.board.begin_acknowledge(&mut self.recorders)?;
+        self.board.finish_acknowledge(half, &mut self.recorders)
+    }
 
-// The byte that is listed of an accepted operation, 0 if it has none.
-pub fn operate(
-    board: &mut Board<Loopback>,
-    recorders: &mut Recorders<'_>,
-    operation: Operation,
-) -> Result<u8, Refusal>
-    ensures answer { result ≡ last_listed (calls_of operation (state plug board.old recorders.old)) (state plug board.old recorders.old) }
-    ensures state { state plug board.new recorders.new ≡ ran (calls_of operation (state plug board.old recorders.old)) (state plug board.old recorders.old) }
-    ensures room { BothExtended recorders.old recorders.new }
-{
-    match operation {
-        Operation::Read { address } => board.read(Latched::new(address, true), recorders),
-        Operation::Write { address, byte } => {
-            board.write(Latched::new(address, true), byte, recorders)?;
-            Ok(0)
-        }
-        Operation::Clocks { span } => {
-            board.span(span, recorders)?;
-            Ok(0)
-        }
-        Operation::Pin { code, level } => {
-            board.set_pin(code, level, recorders)?;
-            Ok(0)
-        }
-        Operation::Acknowledge => board.acknowledge(recorders),
-        Operation::AcknowledgeBoth => both_pulses(board, recorders),
-        Operation::Reset => {
-            board.reset(recorders);
-            Ok(0)
-        }
-        Operation::Look { register } => look_at(board, register),
+    // One register by its number.
+    fn look_at(&mut self, register: u8) -> Result<u8, Refusal>
+        ensures answer { result ≡ listed (answered (look (register ∷ []) (0 ∷ [])) (state_of self.old).board) }
+        ensures same { self.new ≡ self.old }
+    {
+        let mut place = [0u8; 1];
+        self.board.look(&[register], &mut place)?;
+        Ok(place[0])
     }
 }

@@ -28,7 +28,7 @@ abbrev pub view : {P : Type 0} → (P → Meaning) → Parts P → View
 view meaning b = record { unit = b.unit; partner = meaning b.partner; clock = b.clock }
 
 abbrev pub with_unit : StandIn → View → View
-with_unit u v = record { unit = u; partner = v.partner; clock = v.clock }
+with_unit u v = record v { unit = u }
 
 -- the levels of TxD, RxD and INT
 abbrev pub lines_of : StandIn → Lines
@@ -39,7 +39,7 @@ abbrev pub heard_by : Bool → StandIn → Meaning → Meaning
 heard_by txd u m = cond (differ txd (txd_level u)) (hearing (txd_level u) m) m
 
 abbrev pub told_to : Bool → View → View
-told_to txd v = record { unit = v.unit; partner = heard_by txd v.unit v.partner; clock = v.clock }
+told_to txd v = record v { partner = heard_by txd v.unit v.partner }
 
 -- RxD takes the partner's level
 abbrev pub joined : View → View

@@ -1,8 +1,6 @@
 // The marks of a run: a script on standard input, the marks of both recorders on standard output.
 use crate::reading::each_line;
-use bench::run_line;
-use board::Board;
-use line::Loopback;
+use bench::Bench;
 use marks::{Line, Recorders, ServiceMark, WireMark};
 use std::fmt::Display;
 use std::io;
@@ -32,17 +30,17 @@ pub fn print_marks(rt: &HostRuntime) -> io::Result<()> {
     let blank_service = ServiceMark::Passed { clock: 0, level: 0 };
     let mut wire_room = vec![in rt.alloc(); blank_wire; ROOM]?;
     let mut service_room = vec![in rt.alloc(); blank_service; ROOM]?;
-    let mut board = Board::power_up(Loopback::new());
-    let mut recorders = Recorders::new(wire_room.as_mut_slice(), service_room.as_mut_slice());
+    let mut bench = Bench::power_up(wire_room.as_mut_slice(), service_room.as_mut_slice());
     each_line(rt, |number, line| {
-        let _ = run_line(&mut board, &mut recorders, number, line);
+        let _ = bench.run_line(number, line);
         Ok(())
     })?;
+    let Recorders { wires, services } = &bench.recorders;
     let mut output = BufWriter::new(rt.alloc(), rt.stdout())?;
-    print_each(&mut output, recorders.wires.marks())?;
-    print_each(&mut output, recorders.services.marks())?;
-    let wires_away = recorders.wires.turned_away();
-    let services_away = recorders.services.turned_away();
+    print_each(&mut output, wires.marks())?;
+    print_each(&mut output, services.marks())?;
+    let wires_away = wires.turned_away();
+    let services_away = services.turned_away();
     writeln!(
         output,
         "turned away: {wires_away} wire, {services_away} service"

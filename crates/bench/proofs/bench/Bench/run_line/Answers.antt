@@ -4,7 +4,7 @@ use Rattle.board.proofs.Stacking.{service_is_a_stack}
 use Rattle.board.proofs.Drained.{requests_drain}
 use Rattle.bench.proofs.ScriptHistory.{script_is_a_history, script_answers_all}
 use Rattle.bench.proofs.Shortened.{start_runs}
-use Rattle.bench.proofs.runner.run_line.Goals as goal
+use Rattle.bench.proofs.bench.Bench.run_line.Goals as goal
 
 pub returns : goal.returns
 returns c = record {
