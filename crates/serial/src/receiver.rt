@@ -3,10 +3,11 @@ ghost use Rattle.std.specs.Prelude.{◌≡◌, ℕ, ◌+◌, ◌-◌, ◌<◌, �
 ghost use Rattle.serial.specs.Forms.{SoundForm};
 ghost use Rattle.serial.specs.Laws.{Carries, Receives, Returns};
 ghost use Rattle.serial.specs.Lines.{after as after_ticks, tells};
-ghost use Rattle.serial.specs.Receiving.{SoundReceiving, SoundReceiver, begun, lasting, with_bit, with_parity, past_bit, past_data, past_start, heard, received, outcome, quiet_ticks, worth};
+ghost use Rattle.serial.specs.Receiving.{SoundReceiving, SoundReceiver, begun, lasting, with_bit, with_parity, past_bit, past_data, past_start, heard, received, outcome, quiet_ticks};
 
 use crate::form::Form;
 use crate::stage::{Lasting, Stage};
+use bits::weight;
 use std::marker::Model;
 
 /// A frame being received: its form, the data bits gathered so far, the parity bit once sampled, and the ticks to the next sample.
@@ -168,7 +169,7 @@ impl Receiving {
         ensures kept { SoundReceiving result (place + 1) }
     {
         Receiving {
-            character: self.character + worth(place, rxd),
+            character: self.character + weight(place, rxd),
             left: self.form.ticks(),
             ..self
         }
@@ -222,11 +223,4 @@ impl Receiving {
             }
         }
     }
-}
-
-fn worth(place: u8, rxd: bool) -> u8
-    requires { place < 8 }
-    ensures { result ≡ worth place rxd }
-{
-    if rxd { 1 << place } else { 0 }
 }

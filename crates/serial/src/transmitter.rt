@@ -7,6 +7,7 @@ ghost use Rattle.serial.specs.Sending.{SoundSending, SoundPhase, begun, ending, 
 
 use crate::form::Form;
 use crate::stage::{Lasting, Stage};
+use bits::bit;
 use std::marker::Model;
 
 /// A frame under way: the form it began with, its character, and the ticks left in its phase.
@@ -69,7 +70,7 @@ impl Transmitter {
         match self.phase {
             Stage::Idle | Stage::Stop(_) => true,
             Stage::Start(_) => false,
-            Stage::Data(sending, place) => (sending.character >> place) % 2 == 1,
+            Stage::Data(sending, place) => bit(sending.character, place),
             Stage::Parity(sending) => sending.form.parity_bit(sending.character),
         }
     }
