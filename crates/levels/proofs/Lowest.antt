@@ -1,82 +1,47 @@
 -- The lowest place of a set: how a search from the front finds it, and that it stands within the set.
-use Rattle.std.proofs.Common.{◌≡◌, ℕ, suc, ◌+◌, ◌<◌, ◌≤◌, Bool, true, false, List, [], ◌∷◌, map, length, get_or, drop, IfSome, Some, None, Option, sym, refl, ap, ◌∙◌, add-zero, zero-add, arith}
+use Rattle.std.proofs.Common.{◌≡◌, ℕ, suc, ◌<◌, Bool, true, false, cond, List, [], ◌∷◌, map, length, Some, None, Option, refl, sym, ap, ◌∙◌, ◌+◌, nat_lt, nat_le, arith}
 use Rattle.std.specs.Option.{option_map}
-use Rattle.std.specs.List.{AllByRecursion}
-use Rattle.std.proofs.lemmas.List.{drop_more, drop_all}
-use Rattle.std.proofs.lemmas.Bool.{both_ways}
+use Rattle.std.specs.List.{AllByRecursion, position, position_or_len}
+use Rattle.std.proofs.lemmas.Bool.Decides.{nat_tests}
 use Rattle.std.proofs.ByRecursion.{All-map, All-weaker}
 use Rattle.levels.specs.Sets.{lowest, levels, below}
 
--- a place found past the first i
-abbrev pub past : ℕ → Option ℕ → Option ℕ
-past i = option_map (λ n. i + n)
+position_suc : (s : List Bool) → position (λ b. b) (false ∷ s) ≡ option_map suc (position (λ b. b) s)
+position_suc s = grind (arith, nat_tests)
 
-pub past_none : (o : Option ℕ) → o ≡ past 0 o
-past_none None = refl
-past_none (Some n) = ap Some (sym (zero-add n))
+-- the lowest place is the position of the first that is set
+pub lowest_position : (s : List Bool) → position (λ b. b) s ≡ lowest s
+lowest_position [] = refl
+lowest_position (true ∷ s) = grind (arith, nat_tests)
+lowest_position (false ∷ s) = position_suc s ∙ ap (option_map suc) (lowest_position s)
 
-past_more : (i : ℕ) (o : Option ℕ) → past i (option_map suc o) ≡ past (i + 1) o
-past_more i None = refl
-past_more i (Some n) = let e : i + suc n ≡ i + 1 + n = omega arith in ap Some e
+-- the lowest of one set, where the other has none that is as low
+abbrev pub lower : Option ℕ → Option ℕ → Option ℕ
+lower None served = None
+lower (Some l) None = Some l
+lower (Some l) (Some s) = cond (nat_le s l) None (Some l)
 
-clear_front : (i : ℕ) (b : Bool) (s : List Bool) → b ≡ false → past i (lowest (b ∷ s)) ≡ past (i + 1) (lowest s)
-clear_front i true s e = absurd (both_ways true e refl)
-clear_front i false s e = past_more i (lowest s)
+lower_suc : (o served : Option ℕ) → option_map suc (lower o served) ≡ lower (option_map suc o) (option_map suc served)
+lower_suc None served = refl
+lower_suc (Some l) None = refl
+lower_suc (Some l) (Some s) = grind (arith, nat_tests)
 
-set_front : (i : ℕ) (b : Bool) (s : List Bool) → b ≡ true → past i (lowest (b ∷ s)) ≡ Some i
-set_front i true s e = ap Some (add-zero i)
-set_front i false s e = absurd (both_ways false refl e)
+lower_none : (o : Option ℕ) → None ≡ lower (option_map suc o) (Some 0)
+lower_none None = refl
+lower_none (Some l) = grind (arith, nat_tests)
 
-module _ (s : List Bool) (i : ℕ) where
-  pub lowest_more : i < length s → get_or s i false ≡ false → past i (lowest (drop i s)) ≡ past (i + 1) (lowest (drop (i + 1) s))
-  lowest_more h e = ap (λ t. past i (lowest t)) (drop_more s i false h) ∙ clear_front i (get_or s i false) (drop (i + 1) s) e
+lower_first : (served : Option ℕ) → Some 0 ≡ lower (Some 0) (option_map suc served)
+lower_first None = refl
+lower_first (Some s) = grind (arith, nat_tests)
 
-  pub lowest_found : i < length s → get_or s i false ≡ true → past i (lowest (drop i s)) ≡ Some i
-  lowest_found h e = ap (λ t. past i (lowest t)) (drop_more s i false h) ∙ set_front i (get_or s i false) (drop (i + 1) s) e
-
-  pub lowest_all : length s ≤ i → past i (lowest (drop i s)) ≡ None
-  lowest_all h = ap (λ t. past i (lowest t)) (drop_all i s h)
-
--- what the search below the levels in service has left at place i
-abbrev pub left : List Bool → List Bool → ℕ → Option ℕ
-left rs ss i = past i (lowest (below (drop i rs) (drop i ss)))
-
-below_front : (r s : Bool) (rs ss : List Bool) → s ≡ false → below (r ∷ rs) (s ∷ ss) ≡ r ∷ below rs ss
-below_front r true rs ss e = absurd (both_ways true e refl)
-below_front r false rs ss e = refl
-
-below_cut : (r s : Bool) (rs ss : List Bool) → s ≡ true → below (r ∷ rs) (s ∷ ss) ≡ []
-below_cut r true rs ss e = refl
-below_cut r false rs ss e = absurd (both_ways false refl e)
-
-module _ (rs ss : List Bool) (i : ℕ) (hr : i < length rs) (hs : i < length ss) where
-  fronts : below (drop i rs) (drop i ss) ≡ below (get_or rs i false ∷ drop (i + 1) rs) (get_or ss i false ∷ drop (i + 1) ss)
-  fronts = let e = drop_more rs i false hr in let f = drop_more ss i false hs in cc
-
-  pub left_cut : get_or ss i false ≡ true → left rs ss i ≡ None
-  left_cut e = ap (λ t. past i (lowest t)) (fronts ∙ below_cut (get_or rs i false) (get_or ss i false) (drop (i + 1) rs) (drop (i + 1) ss) e)
-
-  open_front : get_or ss i false ≡ false → left rs ss i ≡ past i (lowest (get_or rs i false ∷ below (drop (i + 1) rs) (drop (i + 1) ss)))
-  open_front e = ap (λ t. past i (lowest t)) (fronts ∙ below_front (get_or rs i false) (get_or ss i false) (drop (i + 1) rs) (drop (i + 1) ss) e)
-
-  pub left_found : get_or ss i false ≡ false → get_or rs i false ≡ true → left rs ss i ≡ Some i
-  left_found e f = open_front e ∙ set_front i (get_or rs i false) (below (drop (i + 1) rs) (drop (i + 1) ss)) f
-
-  pub left_more : get_or ss i false ≡ false → get_or rs i false ≡ false → left rs ss i ≡ left rs ss (i + 1)
-  left_more e f = open_front e ∙ clear_front i (get_or rs i false) (below (drop (i + 1) rs) (drop (i + 1) ss)) f
-
-pub left_all : (rs ss : List Bool) (i : ℕ) → length rs ≤ i → left rs ss i ≡ None
-left_all rs ss i h = ap (λ t. past i (lowest (below t (drop i ss)))) (drop_all i rs h)
-
-found_suc : (n : ℕ) (o : Option ℕ) → IfSome o (λ l. l < n) → IfSome (option_map suc o) (λ l. l < suc n)
-found_suc n None h = tt
-found_suc n (Some l) h = omega arith
-
--- the lowest place stands within the set
-pub lowest_within : (s : List Bool) → IfSome (lowest s) (λ l. l < length s)
-lowest_within [] = tt
-lowest_within (true ∷ s) = omega arith
-lowest_within (false ∷ s) = found_suc (length s) (lowest s) (lowest_within s)
+-- the search below the levels in service compares the lowest of both sets
+pub lowest_below : (rs ss : List Bool) → length rs ≡ length ss → lowest (below rs ss) ≡ lower (lowest rs) (lowest ss)
+lowest_below [] ss h = refl
+lowest_below (r ∷ rs) [] h = absurd (omega arith)
+lowest_below (true ∷ rs) (true ∷ ss) h = refl
+lowest_below (false ∷ rs) (true ∷ ss) h = lower_none (lowest rs)
+lowest_below (true ∷ rs) (false ∷ ss) h = lower_first (lowest ss)
+lowest_below (false ∷ rs) (false ∷ ss) h = ap (option_map suc) (lowest_below rs ss (omega arith)) ∙ lower_suc (lowest rs) (lowest ss)
 
 all_suc : (n : ℕ) (ls : List ℕ) → AllByRecursion (λ l. l < n) ls → AllByRecursion (λ l. l < suc n) (map suc ls)
 all_suc n ls h = All-map (λ l. l < suc n) suc ls (All-weaker (λ l. l < n) (λ l. suc l < suc n) (λ l k. omega arith) ls h)

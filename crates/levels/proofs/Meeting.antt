@@ -1,29 +1,49 @@
--- A loop that meets two sets place by place, in the first of them.
-use Rattle.std.proofs.Common.{◌≡◌, ℕ, zero, suc, ◌+◌, ◌<◌, ◌≤◌, Bool, false, List, [], ◌∷◌, length, get_or, set, refl, ap, le_of_suc-le-suc, not-suc-le-zero, add-one}
+-- An array that a closure gives place by place, and two sets that one meets.
+use Rattle.std.proofs.Common.{◌≡◌, ℕ, zero, suc, ◌+◌, ◌<◌, ◌≤◌, Bool, false, List, [], ◌∷◌, map, length, get_or, ap, refl, sym, subst, ◌∙◌, le_of_suc-le-suc, not-suc-le-zero, arith, inl, inr}
+use Rattle.std.specs.Array.{IsFromFnResult, IsFromFnResultFrom}
+use Rattle.std.specs.Fn.{Called}
+use Rattle.std.specs.List.{range_with_len}
+use Rattle.std.proofs.lemmas.Bool.{cases_lt}
+use Rattle.std.proofs.lemmas.List.FromFn.{fill_by_all}
+use denote.Param.Members.{Mut}
 use Rattle.levels.specs.Sets.{paired}
 
+module _ {F B : Type 0} (g : Mut F (ℕ × Unit {0}) B) (h : ℕ → B) (f : F)
+    (gives : (i : ℕ) (y : B) (q : F) → Called g f (i, tt) y q → (q ≡ f) × (y ≡ h i)) where
+  given : (ys : List B) (i n k : ℕ) (d : B) (p : F) → p ≡ f → IsFromFnResultFrom g p ys i n → i ≤ k → k < i + n → get_or ys k d ≡ h k
+  given ys i zero k d p e r l m = absurd (omega arith)
+  given ys i (suc n) k d p e r l m =
+      let called = gives i r.1 r.0 (subst (λ s. Called g s (i, tt) r.1 r.0) e r.3) in
+      elim (cases_lt i k) [
+        | inl below ↦ given ys (i + 1) n k d r.0 called.0 r.4 (omega arith) (omega arith)
+        | inr reached ↦
+            let same : i ≡ k = omega arith in
+            subst (λ j. get_or ys j d ≡ h j) same (r.2.1 d ∙ called.1)
+      ]
+
+  -- the array of what the closure gives at each number
+  pub made : (ys : List B) (n : ℕ) (d : B) → IsFromFnResult g f ys n → ys ≡ map h (range_with_len 0 n)
+  made ys n d r = fill_by_all h ys n d r.long (λ k l. given ys 0 n k d f refl r.each (omega arith) (omega arith))
+
 module _ (f : Bool → Bool → Bool) where
-  -- the sets met at their first i places
-  abbrev pub met : ℕ → List Bool → List Bool → List Bool
-  met zero s w = s
-  met (suc i) [] w = []
-  met (suc i) (a ∷ s) [] = a ∷ s
-  met (suc i) (a ∷ s) (b ∷ w) = f a b ∷ met i s w
+  get_or-paired : (s w : List Bool) (k : ℕ) → length s ≡ length w → k < length s → get_or (paired f s w) k false ≡ f (get_or s k false) (get_or w k false)
+  get_or-paired [] w k e l = absurd (not-suc-le-zero l)
+  get_or-paired (a ∷ s) [] k e l = absurd (omega arith)
+  get_or-paired (a ∷ s) (b ∷ w) zero e l = refl
+  get_or-paired (a ∷ s) (b ∷ w) (suc k) e l = get_or-paired s w k (omega arith) (le_of_suc-le-suc l)
 
-  met_suc : (i : ℕ) (s w : List Bool) → i < length w → set (met i s w) i (f (get_or (met i s w) i false) (get_or w i false)) ≡ met (suc i) s w
-  met_suc i s [] h = absurd (not-suc-le-zero h)
-  met_suc zero [] (b ∷ w) h = refl
-  met_suc zero (a ∷ s) (b ∷ w) h = refl
-  met_suc (suc i) [] (b ∷ w) h = refl
-  met_suc (suc i) (a ∷ s) (b ∷ w) h = ap (λ t. f a b ∷ t) (met_suc i s w (le_of_suc-le-suc h))
+  length-paired : (s w : List Bool) → length (paired f s w) ≡ length s
+  length-paired [] w = refl
+  length-paired (a ∷ s) [] = refl
+  length-paired (a ∷ s) (b ∷ w) = ap suc (length-paired s w)
 
-  pub met_more : (i : ℕ) (s w t : List Bool) (v : Bool) → i < length w → t ≡ met i s w → v ≡ f (get_or t i false) (get_or w i false)
-      → set t i v ≡ met (i + 1) s w
-  met_more i s w t v h e k = rw add-one (let m = met_suc i s w h in cc)
+  -- two sets met place by place
+  met : (s w : List Bool) (n : ℕ) → length s ≡ n → length w ≡ n → paired f s w ≡ map (λ k. f (get_or s k false) (get_or w k false)) (range_with_len 0 n)
+  met s w n e m = fill_by_all (λ k. f (get_or s k false) (get_or w k false)) (paired f s w) n false (length-paired s w ∙ e)
+      (λ k l. get_or-paired s w k (omega arith) (omega arith))
 
-  pub met_all : (i : ℕ) (s w : List Bool) → length s ≤ i → met i s w ≡ paired f s w
-  met_all zero [] w h = refl
-  met_all (suc i) [] w h = refl
-  met_all zero (a ∷ s) w h = absurd (not-suc-le-zero h)
-  met_all (suc i) (a ∷ s) [] h = refl
-  met_all (suc i) (a ∷ s) (b ∷ w) h = ap (λ t. f a b ∷ t) (met_all i s w (le_of_suc-le-suc h))
+  -- the array of what a closure gives that meets two sets
+  pub meets : {F : Type 0} (g : Mut F (ℕ × Unit {0}) Bool) (c : F) (s w ys : List Bool) (n : ℕ)
+      → ((i : ℕ) (y : Bool) (q : F) → Called g c (i, tt) y q → (q ≡ c) × (y ≡ f (get_or s i false) (get_or w i false)))
+      → IsFromFnResult g c ys n → length s ≡ n → length w ≡ n → ys ≡ paired f s w
+  meets g c s w ys n gives r e m = made g (λ k. f (get_or s k false) (get_or w k false)) c gives ys n false r ∙ sym (met s w n e m)

@@ -1,8 +1,9 @@
 -- A byte and its eight bits say the same.
 use Rattle.std.proofs.Common.{◌≡◌, ℕ, zero, suc, ◌+◌, ◌*◌, ◌/◌, ◌%◌, ◌^◌, ◌<◌, Bool, true, false, cond, List, [], ◌∷◌, length, get_or, drop, sym, refl, ap, ◌∙◌, pow-suc, arith}
+use Rattle.std.proofs.Common.{map, ◌==◌, ◌≤◌, subst, rules, add-one}
+use Rattle.std.specs.List.{range_with_len}
 use native.Mathlib.Nat.{div-div-eq-div-mul}
-use mir.Val.{bool_byte}
-use Rattle.std.proofs.lemmas.List.{at_drop_more}
+use Rattle.std.proofs.lemmas.List.{at_drop_more, at_drop_all}
 use Rattle.std.proofs.lemmas.Bool.{eq-eqb, ne_eqb}
 use Rattle.std.proofs.lemmas.Bool.Decides.{nat_tests}
 use Rattle.levels.specs.Bytes.{odd, flags, byte}
@@ -43,10 +44,41 @@ byte_flags n h = ap byte (flags_bits n) ∙ byte_bits 8 n h
 pub flags_byte : (s : List Bool) → length s ≡ 8 → flags (byte s) ≡ s
 flags_byte s h = flags_bits (byte s) ∙ ap (λ k. bits k (byte s)) (sym h) ∙ bits_byte s
 
-number : (b : Bool) → cond b 1 0 ≡ bool_byte b
-number true = refl
-number false = refl
+-- a set's byte is below its length in bits
+pub byte_bound : (s : List Bool) → byte s < 2 ^ length s
+byte_bound [] = omega arith
+byte_bound (true ∷ s) = omega (arith, byte_bound s, pow-suc 2 (length s))
+byte_bound (false ∷ s) = omega (arith, byte_bound s, pow-suc 2 (length s))
 
--- the byte of a set, one place further
-pub byte_more : (s : List Bool) (i : ℕ) → i < length s → byte (drop i s) ≡ bool_byte (get_or s i false) + 2 * byte (drop (i + 1) s)
-byte_more s i h = at_drop_more byte s i false h ∙ ap (λ b. b + 2 * byte (drop (i + 1) s)) (number (get_or s i false))
+weighs : (b : Bool) (w n : ℕ) → w * (cond b 1 0 + 2 * n) ≡ cond b w 0 + 2 * w * n
+weighs true w n = grind (arith, rules)
+weighs false w n = grind (arith, rules)
+
+-- what the places from i on weigh, one place further
+byte_more : (s : List Bool) (i : ℕ) → i < length s
+    → 2 ^ i * byte (drop i s) ≡ cond (get_or s i false) (2 ^ i) 0 + 2 ^ (i + 1) * byte (drop (i + 1) s)
+byte_more s i h =
+    ap (λ n. 2 ^ i * n) (at_drop_more byte s i false h)
+    ∙ weighs (get_or s i false) (2 ^ i) (byte (drop (i + 1) s))
+    ∙ ap (λ w. cond (get_or s i false) (2 ^ i) 0 + w * byte (drop (i + 1) s)) (grind (arith, pow-suc 2 i, add-one))
+
+-- a loop that adds what each place weighs: its start, a step of it and its end
+pub adds_none : (s : List Bool) → 0 + 2 ^ 0 * byte (drop 0 s) ≡ byte s
+adds_none s = omega arith
+
+pub adds_more : (s : List Bool) (i b v : ℕ) → i < length s → b + 2 ^ i * byte (drop i s) ≡ byte s
+    → v ≡ cond (get_or s i false) (2 ^ i) 0 → b + v + 2 ^ (i + 1) * byte (drop (i + 1) s) ≡ byte s
+adds_more s i b v h e k = omega (arith, byte_more s i h)
+
+pub adds_all : (s : List Bool) (i b : ℕ) → length s ≤ i → b + 2 ^ i * byte (drop i s) ≡ byte s → b ≡ byte s
+adds_all s i b h e = let none = at_drop_all byte s i h in grind (arith, rules)
+
+pub adds_within : (s : List Bool) (i b v : ℕ) → length s ≡ 8 → i < length s → b + 2 ^ i * byte (drop i s) ≡ byte s
+    → v ≡ cond (get_or s i false) (2 ^ i) 0 → b + v < 256
+adds_within s i b v n h e k =
+    let bound : byte s < 2 ^ 8 = subst (λ m. byte s < 2 ^ m) n (byte_bound s) in
+    omega (arith, adds_more s i b v h e k)
+
+-- the flags as an array that a closure gives
+pub flags_made : (n : ℕ) → map (λ k. n / 2 ^ k % 2 == 1) (range_with_len 0 8) ≡ flags n
+flags_made n = let e : n / 1 ≡ n = omega arith in ap (λ m. odd m ∷ odd (n / 2) ∷ odd (n / 4) ∷ odd (n / 8) ∷ odd (n / 16) ∷ odd (n / 32) ∷ odd (n / 64) ∷ odd (n / 128) ∷ []) e

@@ -2,19 +2,20 @@
 ghost use Rattle.std.specs.Prelude.{◌≡◌, ◌<◌, false, replicate};
 ghost use Rattle.levels.specs.Sets.{lowest, levels, ended};
 ghost use Rattle.std.specs.List.{AllByRecursion};
-ghost use Rattle.levels.specs.Levels.{Within, Closed};
+ghost use Rattle.levels.specs.Levels.{Closed};
 
 use crate::priority::lowest_of;
+use bits::Place as Level;
+use std::mem;
 
 // END closes the lowest level in service, if any.
-pub fn end(service: &mut [bool; 8]) -> Option<u8>
+pub fn end(service: &mut [bool; 8]) -> Option<Level>
     ensures closes { result ≡ lowest service.old }
     ensures after { service.new ≡ ended service.old }
-    ensures within { Within result }
     ensures stack { Closed result service.old service.new }
 {
     let level = lowest_of(service)?;
-    service[level as usize] = false;
+    service[level.index()] = false;
     Some(level)
 }
 
@@ -24,7 +25,5 @@ pub fn close_all(service: &mut [bool; 8]) -> [bool; 8]
     ensures after { service.new ≡ replicate 8 false }
     ensures within { AllByRecursion (λ l. l < 8) (levels result) }
 {
-    let closed = *service;
-    *service = [false; 8];
-    closed
+    mem::replace(service, [false; 8])
 }

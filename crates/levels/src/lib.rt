@@ -8,8 +8,9 @@ mod masks;
 mod pending;
 mod priority;
 
+pub use bits::Place as Level;
 pub use bytes::{byte_of, flags_of};
 pub use closing::{close_all, end};
 pub use masks::{clear_if, difference, disable, enable, request_if};
-pub use pending::{Pending, take};
+pub use pending::Pending;
 pub use priority::{ready, requesting};

@@ -1,31 +1,31 @@
 // The mask of enabled levels: what it lets be recorded, and the words that change it.
-ghost use Rattle.std.specs.Prelude.{◌≡◌, ◌<◌, false, ◌&&◌, set as put, if◌then◌else◌, slice_index_or};
+ghost use Rattle.std.specs.Prelude.{◌≡◌, false, ◌&&◌, set as put, if◌then◌else◌, slice_index_or};
 ghost use Rattle.levels.specs.Bytes.{flags};
 ghost use Rattle.levels.specs.Sets.{union, minus};
 ghost use Rattle.levels.specs.Levels.{request, fresh};
 
 use crate::bytes::flags_of;
+use bits::Place as Level;
+use std::array;
 
 // A request is recorded if its level is enabled; nothing changes where it is recorded already.
-pub fn request_if(requests: &mut [bool; 8], mask: &[bool; 8], level: u8, on: bool)
-    requires { level < 8 }
+pub fn request_if(requests: &mut [bool; 8], mask: &[bool; 8], level: Level, on: bool)
     ensures after { requests.new ≡ (if on then request level mask.now requests.old else requests.old) }
     ensures kept { fresh on level mask.now requests.old ≡ false → requests.new ≡ requests.old }
 {
-    let place = level as usize;
+    let place = level.index();
     if on && mask[place] {
         requests[place] = true;
     }
 }
 
 // A level that disables itself; nothing changes where it is disabled already.
-pub fn clear_if(mask: &mut [bool; 8], level: u8, on: bool)
-    requires { level < 8 }
+pub fn clear_if(mask: &mut [bool; 8], level: Level, on: bool)
     ensures after { mask.new ≡ (if on then put mask.old level false else mask.old) }
     ensures kept { (on && slice_index_or mask.old level false) ≡ false → mask.new ≡ mask.old }
 {
     if on {
-        mask[level as usize] = false;
+        mask[level.index()] = false;
     }
 }
 
@@ -33,7 +33,8 @@ pub fn clear_if(mask: &mut [bool; 8], level: u8, on: bool)
 pub fn enable(mask: &mut [bool; 8], word: u8)
     ensures { mask.new ≡ union mask.old (flags word) }
 {
-    include(mask, &flags_of(word));
+    let chosen = flags_of(word);
+    *mask = array::from_fn(|level| mask[level] || chosen[level]);
 }
 
 // A disable word clears its 1 bits in the mask and drops their requests; what is in service stays there.
@@ -42,31 +43,13 @@ pub fn disable(mask: &mut [bool; 8], requests: &mut [bool; 8], word: u8)
     ensures dropped { requests.new ≡ minus requests.old (flags word) }
 {
     let chosen = flags_of(word);
-    exclude(mask, &chosen);
-    exclude(requests, &chosen);
+    *mask = difference(mask, &chosen);
+    *requests = difference(requests, &chosen);
 }
 
 // The levels of one set that another lacks.
 pub fn difference(set: &[bool; 8], other: &[bool; 8]) -> [bool; 8]
     ensures { result ≡ minus set.now other.now }
 {
-    let mut left = *set;
-    exclude(&mut left, other);
-    left
-}
-
-fn include(levels: &mut [bool; 8], chosen: &[bool; 8])
-    ensures { levels.new ≡ union levels.old chosen.now }
-{
-    for level in 0..8 {
-        levels[level] = levels[level] || chosen[level];
-    }
-}
-
-fn exclude(levels: &mut [bool; 8], chosen: &[bool; 8])
-    ensures { levels.new ≡ minus levels.old chosen.now }
-{
-    for level in 0..8 {
-        levels[level] = levels[level] && !chosen[level];
-    }
+    array::from_fn(|level| set[level] && !other[level])
 }

@@ -1,8 +1,9 @@
 // What a read of a register may disturb: the recorded requests and the levels in service.
-ghost use Rattle.std.specs.Prelude.{◌≡◌, true};
-ghost use Rattle.levels.specs.Levels.{due, taken, Within, Opened};
+ghost use Rattle.std.specs.Prelude.{◌≡◌, true, false, replicate};
+ghost use Rattle.levels.specs.Levels.{due, taken, Opened};
 
 use crate::priority::{ready, requesting};
+use bits::Place as Level;
 
 #[derive(Clone, Copy)]
 pub struct Pending {
@@ -10,22 +11,39 @@ pub struct Pending {
     pub service: [bool; 8],
 }
 
-// Taking picks the ready level, drops its recorded request and, with nesting on, puts it in service.
-pub fn take(pending: &mut Pending, mask: &[bool; 8], extint: bool, nesting: bool) -> Option<u8>
-    ensures picks { result ≡ due pending.old mask.now extint nesting }
-    ensures after { pending.new ≡ taken result pending.old nesting }
-    ensures within { Within result }
-    ensures opens { nesting ≡ true → Opened result pending.old.service }
-{
-    let level = ready(
-        &requesting(&pending.requests, mask, extint),
-        &pending.service,
-        nesting,
-    )?;
-    let place = level as usize;
-    pending.requests[place] = false;
-    if nesting {
-        pending.service[place] = true;
+impl Pending {
+    pub fn new() -> Pending
+        ensures { result ≡ record { requests = replicate 8 false; service = replicate 8 false } }
+    {
+        Pending {
+            requests: [false; 8],
+            service: [false; 8],
+        }
     }
-    Some(level)
+
+    // The level that taking picks.
+    pub fn due(&self, mask: &[bool; 8], extint: bool, nesting: bool) -> Option<Level>
+        ensures { result ≡ due self.now mask.now extint nesting }
+    {
+        ready(
+            &requesting(&self.requests, mask, extint),
+            &self.service,
+            nesting,
+        )
+    }
+
+    // Taking picks the ready level, drops its recorded request and, with nesting on, puts it in service.
+    pub fn take(&mut self, mask: &[bool; 8], extint: bool, nesting: bool) -> Option<Level>
+        ensures picks { result ≡ due self.old mask.now extint nesting }
+        ensures after { self.new ≡ taken result self.old nesting }
+        ensures opens { nesting ≡ true → Opened result self.old.service }
+    {
+        let level = self.due(mask, extint, nesting)?;
+        let place = level.index();
+        self.requests[place] = false;
+        if nesting {
+            self.service[place] = true;
+        }
+        Some(level)
+    }
 }

@@ -1,7 +1,9 @@
 // Which levels request, and which one of them comes first.
 ghost use Rattle.std.specs.Prelude.{◌≡◌};
 ghost use Rattle.levels.specs.Sets.{lowest, below};
-ghost use Rattle.levels.specs.Levels.{requesting as requests_of, ready as first_ready, Within};
+ghost use Rattle.levels.specs.Levels.{requesting as requests_of, ready as first_ready};
+
+use bits::Place as Level;
 
 // Level 2 is never recorded: it requests while the pin EXTINT is high and level 2 is enabled.
 pub fn requesting(recorded: &[bool; 8], mask: &[bool; 8], extint: bool) -> [bool; 8]
@@ -13,9 +15,8 @@ pub fn requesting(recorded: &[bool; 8], mask: &[bool; 8], extint: bool) -> [bool
 }
 
 // The lowest requesting level that, with nesting on, is below every level in service.
-pub fn ready(requesting: &[bool; 8], service: &[bool; 8], nesting: bool) -> Option<u8>
-    ensures picks { result ≡ first_ready requesting.now service.now nesting }
-    ensures within { Within result }
+pub fn ready(requesting: &[bool; 8], service: &[bool; 8], nesting: bool) -> Option<Level>
+    ensures { result ≡ first_ready requesting.now service.now nesting }
 {
     if nesting {
         lowest_below(requesting, service)
@@ -24,30 +25,20 @@ pub fn ready(requesting: &[bool; 8], service: &[bool; 8], nesting: bool) -> Opti
     }
 }
 
-pub(crate) fn lowest_of(set: &[bool; 8]) -> Option<u8>
-    ensures picks { result ≡ lowest set.now }
-    ensures within { Within result }
+pub(crate) fn lowest_of(set: &[bool; 8]) -> Option<Level>
+    ensures { result ≡ lowest set.now }
 {
-    for place in 0..8u8 {
-        if set[place as usize] {
-            return Some(place);
-        }
-    }
-    None
+    let place = set.iter().position(|on| *on)?;
+    Some(Level::new(place as u8))
 }
 
-fn lowest_below(requests: &[bool; 8], service: &[bool; 8]) -> Option<u8>
-    ensures picks { result ≡ lowest (below requests.now service.now) }
-    ensures within { Within result }
+// The lowest requesting level, if its number is below that of every level in service.
+fn lowest_below(requests: &[bool; 8], service: &[bool; 8]) -> Option<Level>
+    ensures { result ≡ lowest (below requests.now service.now) }
 {
-    for level in 0..8u8 {
-        let place = level as usize;
-        if service[place] {
-            return None;
-        }
-        if requests[place] {
-            return Some(level);
-        }
+    let level = lowest_of(requests)?;
+    match lowest_of(service) {
+        Some(served) if served.number() <= level.number() => None,
+        _ => Some(level),
     }
-    None
 }

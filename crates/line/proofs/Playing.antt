@@ -1,9 +1,11 @@
-use Rattle.std.proofs.Common.{◌≡◌, ℕ, zero, suc, ◌+◌, ◌-◌, ◌<◌, ◌≤◌, max, Bool, true, false, cond, not, leb, List, [], ◌∷◌, length, get_or, drop, Some, None, vec_items, sym, refl, ap, ◌∙◌, add-one, arith, drop_of_length-le, drop-cons}
+use Rattle.std.proofs.Common.{◌≡◌, ℕ, zero, suc, ◌+◌, ◌-◌, ◌<◌, ◌≤◌, max, Bool, true, false, cond, not, leb, List, [], ◌∷◌, length, Option, Some, None, sym, ap, ◌∙◌, arith, refl}
 use native.Mathlib.Nat.{sub-zero}
+use Rattle.std.specs.declared.vec.IntoIter.{IntoIter}
+use Rattle.std.specs.Vec.Iter.{into_iter_items, into_iter_len, into_iter_steps}
+use Rattle.std.proofs.lemmas.List.{nil_from_length}
 use Rattle.std.proofs.lemmas.Bool.Decides.{nat_tests}
 use Rattle.line.specs.Meaning.{Steady, shown, ticked, elapsed}
-use Rattle.line.specs.Plays.{plays, after, first_wait, quiet_for, tape, turned, waiting}
-use Rattle.line.specs.declared.recorded.Recorded.{Recorded}
+use Rattle.line.specs.Plays.{plays, under_way, first_wait, quiet_for}
 use Rattle.line.proofs.Elapsing.{elapsed_add}
 
 -- A line whose list is done keeps its level.
@@ -42,64 +44,25 @@ quiet_steady l [] = record { some = omega arith; most = omega arith; same = λ k
 quiet_steady l (w ∷ ws) =
     record { some = grind arith; most = grind arith; same = λ k h. ap shown (plays_within k l w ws (grind arith)) }
 
--- The waits after the first.
-tail : List ℕ → List ℕ
-tail [] = []
-tail (w ∷ ws) = ws
+-- Clocks that end a wait leave the rest for what comes after it.
+pub plays_past : (n : ℕ) (l : Bool) (w : ℕ) (ws : List ℕ) → max w 1 ≤ n → elapsed n (plays l (w ∷ ws)) ≡ elapsed (n - max w 1) (plays (not l) ws)
+plays_past n l w ws h =
+    let all : n ≡ max w 1 + (n - max w 1) = omega arith in
+    ap (λ k. elapsed k (plays l (w ∷ ws))) all ∙ plays_over (n - max w 1) l w ws
 
-drop_next : (place : ℕ) (xs : List ℕ) → drop (suc place) xs ≡ tail (drop place xs)
-unfolding tail
-drop_next zero [] = refl
-drop_next zero (x ∷ xs) = refl
-drop_next (suc place) [] = refl
-drop_next (suc place) (x ∷ xs) = drop_next place xs
+-- What clocks make of the waits to come, by whether one is under way.
+module _ (n : ℕ) (l : Bool) (now : Option ℕ) (later : List ℕ) where
+  pub tape_ends : now ≡ None → elapsed n (plays l (under_way now later)) ≡ plays l (under_way now later)
+  tape_ends e = rw e (plays_done n l)
 
-after_none : (ws : List ℕ) → after 0 ws ≡ ws
-after_none [] = refl
-after_none (w ∷ ws) = ap (λ n. n ∷ ws) (sub-zero w)
+  module _ (left wait : ℕ) (is : now ≡ Some left) (long : wait ≡ max left 1) where
+    pub tape_stays : n < wait → elapsed n (plays l (under_way now later)) ≡ plays l (under_way (Some (left - n)) later)
+    tape_stays h = rw is (plays_within n l left later (omega arith))
 
--- What n clocks make of the waits, when some of the first are gone.
-module _ (l : Bool) (gone n : ℕ) where
-  ends_of : (ws : List ℕ) → None ≡ first_wait (after gone ws) → elapsed n (plays l (after gone ws)) ≡ plays l (after gone ws)
-  ends_of [] e = plays_done n l
-  ends_of (w ∷ ws) e = let z : ◌≡◌ {A = ℕ} 0 1 = cc in absurd (omega arith)
+    pub tape_turns : (next : List ℕ) → later ≡ next → wait ≤ n → elapsed n (plays l (under_way now later)) ≡ elapsed (n - wait) (plays (not l) next)
+    tape_turns next e h = rw (is, ← e, long) (plays_past n l left later (omega arith))
 
-  stays_of : (left : ℕ) (ws : List ℕ) → Some left ≡ first_wait (after gone ws) → n < left → elapsed n (plays l (after gone ws)) ≡ plays l (after (gone + n) ws)
-  stays_of left [] e h = let z : ◌≡◌ {A = ℕ} 0 1 = cc in absurd (omega arith)
-  stays_of left (w ∷ ws) e h =
-      let is : left ≡ max (w - gone) 1 = cc in
-      plays_within n l (w - gone) ws (grind arith) ∙ ap (λ k. plays l (k ∷ ws)) (omega arith)
-
-  turns_of : (left : ℕ) (ws : List ℕ) → Some left ≡ first_wait (after gone ws) → left ≤ n → elapsed n (plays l (after gone ws)) ≡ elapsed (n - left) (plays (not l) (after 0 (tail ws)))
-  unfolding tail
-  turns_of left [] e h = let z : ◌≡◌ {A = ℕ} 0 1 = cc in absurd (omega arith)
-  turns_of left (w ∷ ws) e h =
-      let is : left ≡ max (w - gone) 1 = cc in
-      let all : n ≡ max (w - gone) 1 + (n - left) = omega arith in
-      ap (λ k. elapsed k (plays l ((w - gone) ∷ ws))) all
-      ∙ plays_over (n - left) l (w - gone) ws
-      ∙ ap (λ v. elapsed (n - left) (plays (not l) v)) (sym (after_none ws))
-
-module _ (gone place : ℕ) (xs : List ℕ) where
-  -- Past the end of the list no wait is left.
-  pub none_left : length xs ≤ place → None ≡ first_wait (after gone (drop place xs))
-  none_left h = rw drop_of_length-le
-
-  -- At a place of the list, what is left of its wait.
-  pub some_left : (w : ℕ) → place < length xs → w ≡ get_or xs place w → Some (max (w - gone) 1) ≡ first_wait (after gone (drop place xs))
-  some_left w h e = let s = drop-cons xs place w h in simp s (ap (λ n. Some (max (n - gone) 1)) e)
-
-module _ (r : Recorded) where
-  -- Clocks after the last wait.
-  pub tape_ends : (n : ℕ) → None ≡ waiting r → elapsed n (tape r) ≡ tape r
-  tape_ends n e = ends_of r.level r.gone n (drop r.place (vec_items r.waits)) e
-
-  -- Clocks within a wait.
-  pub tape_stays : (left n : ℕ) → Some left ≡ waiting r → n < left → elapsed n (tape r) ≡ plays r.level (after (r.gone + n) (drop r.place (vec_items r.waits)))
-  tape_stays left n e h = stays_of r.level r.gone n left (drop r.place (vec_items r.waits)) e h
-
-  -- Clocks that end a wait.
-  pub tape_turns : (left n : ℕ) → Some left ≡ waiting r → left ≤ n → elapsed n (tape r) ≡ elapsed (n - left) (tape (turned r))
-  tape_turns left n e h =
-      turns_of r.level r.gone n left (drop r.place (vec_items r.waits)) e h
-      ∙ ap (λ v. elapsed (n - left) (plays (not r.level) (after 0 v))) (simp add-one (sym (drop_next r.place (vec_items r.waits))))
+-- What an iterator gives next is under way, and what it has left then comes after it.
+pub next_under_way : {Z : Type 0} (given : Option ℕ) (old new : IntoIter ℕ Z) → into_iter_len old ≡ length (into_iter_items old) → into_iter_steps old given new → into_iter_items old ≡ under_way given (into_iter_items new)
+next_under_way None old new long steps = nil_from_length (into_iter_items old) (sym long ∙ steps.0)
+next_under_way (Some left) old new long steps = steps.0

@@ -1,5 +1,6 @@
-use Rattle.std.specs.Prelude.{ℕ, ◌+◌, ◌-◌, min, max, Bool, cond, not, List, [], ◌∷◌, drop, Some, None, vec_items, Option, nat_le}
+use Rattle.std.specs.Prelude.{ℕ, ◌-◌, min, max, Bool, cond, not, List, [], ◌∷◌, Some, None, Option, nat_le}
 use Rattle.std.specs.Option.{unwrap_or}
+use Rattle.std.specs.Vec.Iter.{into_iter_items}
 use Rattle.line.specs.Meaning.{clock, heard, Meaning}
 use Rattle.line.specs.declared.recorded.Recorded.{Recorded}
 
@@ -10,22 +11,18 @@ plays l ws (heard b ∷ s) = plays l ws s
 plays l [] (clock ∷ s) = plays l [] s
 plays l (w ∷ ws) (clock ∷ s) = cond (nat_le w 1) (plays (not l) ws s) (plays l ((w - 1) ∷ ws) s)
 
--- The waits, when some clocks of the first are gone.
-abbrev pub after : ℕ → List ℕ → List ℕ
-after gone [] = []
-after gone (w ∷ ws) = (w - gone) ∷ ws
+-- What is left of the wait under way, and the waits after it; with none under way the list is done.
+abbrev pub under_way : Option ℕ → List ℕ → List ℕ
+under_way None later = []
+under_way (Some left) later = left ∷ later
 
 -- The waits that a recorded line has yet to play.
 abbrev pub to_come : Recorded → List ℕ
-to_come r = after r.gone (drop r.place (vec_items r.waits))
+to_come r = under_way r.left (into_iter_items r.waits)
 
 -- What a recorded line means.
 abbrev pub tape : Recorded → Meaning
 tape r = plays r.level (to_come r)
-
--- A recorded line whose wait is over: the level turns over, and the next wait begins.
-abbrev pub turned : Recorded → Recorded
-turned r = record { waits = r.waits; place = r.place + 1; gone = 0; level = not r.level }
 
 -- The clocks until the first wait is over.
 abbrev pub first_wait : List ℕ → Option ℕ

@@ -32,9 +32,10 @@ impl Partner for Loopback {
         QUIET_MOST
     }
 
+    #[tactic(auto, using(crate::proofs::Elapsing::last_heard_stays))]
     fn advance(&mut self, _clocks: u64) {}
 
     fn hear(&mut self, level: bool) {
-        *self = Loopback { heard: level };
+        self.heard = level;
     }
 }

@@ -1,7 +1,8 @@
 -- One more place of a number, from the right.
-use Rattle.std.proofs.Common.{◌≡◌, ℕ, zero, suc, ◌+◌, ◌-◌, ◌/◌, ◌%◌, ◌^◌, ◌<◌, true, cond, ◌&&◌, eqb, ltb, List, length, drop, set, div-lt_iff_lt-mul, pow-suc, add-one, arith, lit≤, length-set}
+use Rattle.std.proofs.Common.{◌≡◌, ℕ, zero, suc, ◌+◌, ◌/◌, ◌%◌, ◌^◌, ◌<◌, true, cond, ◌&&◌, eqb, ltb, List, length, take, set, reverse, sym, div-lt_iff_lt-mul, pow-suc, add-one, arith, lit≤}
+use mathlib.Core.List.{reverse-cons}
 use native.Mathlib.Nat.{div-div-eq-div-mul, div-eq_of_lt, one-le-pow}
-use Rattle.std.proofs.lemmas.List.{drop-set}
+use Rattle.std.proofs.lemmas.List.{take_more_set}
 use Rattle.std.proofs.lemmas.Bool.Decides.{nat_tests}
 use Rattle.listing.specs.Columns.{column, justified}
 
@@ -25,10 +26,6 @@ byte_is n (suc place) rest e =
     let later : ltb 0 (suc place) ≡ true = grind (arith, nat_tests) in
     rw (e, same, later)
 
--- the columns from one more place on
-pub more : (n place v width : ℕ) (xs : List ℕ) → length xs ≡ width → place < width → v ≡ column n place → drop (length xs - place) xs ≡ justified place n → drop (length (set xs (width - 1 - place) v) - (place + 1)) (set xs (width - 1 - place) v) ≡ justified (place + 1) n
-more n place v width xs long h is e =
-    let i : length (set xs (width - 1 - place) v) - (place + 1) ≡ width - 1 - place = simp length-set (omega arith) in
-    let j : width - 1 - place + 1 ≡ length xs - place = omega arith in
-    let lt : width - 1 - place < length xs = omega arith in
-    rw (i, drop-set xs (width - 1 - place) v lt, j, e, is, add-one)
+-- one more column, where the last digit comes first
+pub one_more : (n place v : ℕ) (xs : List ℕ) → place < length xs → v ≡ column n place → take place xs ≡ reverse (justified place n) → take (place + 1) (set xs place v) ≡ reverse (justified (place + 1) n)
+one_more n place v xs inside is e = rw (take_more_set xs place v inside, e, is, add-one) (sym (reverse-cons (column n place) (justified place n)))

@@ -5,4 +5,4 @@
 mod lines;
 mod number;
 
-pub use lines::{Line, Verdict, write_line};
+pub use lines::{Line, write_line};

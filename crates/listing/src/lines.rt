@@ -1,35 +1,17 @@
 // One line of the listing.
-ghost use Rattle.std.specs.Prelude.{◌≡◌, ◌^◌, ◌<◌, replicate};
-ghost use Rattle.listing.specs.Layout.{layout, printed, word_of};
+ghost use Rattle.std.specs.Prelude.{◌≡◌, ◌^◌, ◌<◌};
+ghost use Rattle.listing.specs.Layout.{layout, printed};
 
 use crate::number::write_number;
-
-// Whether the operation was done.
-#[derive(Clone, Copy)]
-pub enum Verdict {
-    Accepted,
-    Refused,
-}
-
-impl Verdict {
-    fn word(self) -> [u8; 2]
-        ensures { result ≡ word_of self }
-    {
-        match self {
-            Verdict::Accepted => *b"OK",
-            Verdict::Refused => *b"NO",
-        }
-    }
-}
+use refusals::Refusal;
 
 // What one line says.
 #[derive(Clone, Copy)]
 pub struct Line {
     // the number of the script's line
     pub number: u32,
-    pub verdict: Verdict,
-    // the answer, 0 where there is none, or the refusal's number
-    pub answer: u8,
+    // the answer, 0 where there is none, or why the operation was refused
+    pub answer: Result<u8, Refusal>,
     // the clock's number, or the column that refuses a script's line
     pub last: u64,
 }
@@ -41,22 +23,16 @@ pub fn write_line(line: &Line) -> [u8; 29]
     ensures columns { result ≡ layout line.now }
     ensures printed { result ≡ printed line.now }
 {
+    let word = match line.answer {
+        Ok(_) => b"OK",
+        Err(_) => b"NO",
+    };
+    let answer = line.answer.unwrap_or_else(u8::from);
     let mut bytes = [b' '; 29];
-    fill(&mut bytes, line);
-    bytes
-}
-
-// Puts the line's parts over blanks.
-fn fill(bytes: &mut [u8; 29], line: &Line)
-    requires blank { bytes.old ≡ replicate 29 32 }
-    requires number { line.now.number < 10 ^ 5 }
-    requires last { line.now.last < 10 ^ 16 }
-    ensures columns { bytes.new ≡ layout line.now }
-    ensures printed { bytes.new ≡ printed line.now }
-{
-    write_number(&mut bytes[0..5], line.number as u64);
-    bytes[6..8].copy_from_slice(&line.verdict.word());
-    write_number(&mut bytes[8..12], line.answer as u64);
+    write_number(&mut bytes[0..5], u64::from(line.number));
+    bytes[6..8].copy_from_slice(word);
+    write_number(&mut bytes[8..12], u64::from(answer));
     write_number(&mut bytes[12..28], line.last);
     bytes[28] = b'\n';
+    bytes
 }

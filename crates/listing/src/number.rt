@@ -4,16 +4,16 @@ ghost use Rattle.listing.specs.Columns.{justified};
 
 // Fills all the columns with the number, which has at most as many digits as there are columns.
 pub(crate) fn write_number(columns: &mut [u8], number: u64)
-    requires some { 0 < length columns.old }
     requires fits { number < 10 ^ length columns.old }
     ensures { columns.new ≡ justified (length columns.old) number }
 {
-    let width = columns.len();
+    // The division gives the last digit first.
     let mut rest = number;
-    for place in 0..width {
-        columns[width - 1 - place] = byte_at(place, rest);
+    for (place, column) in columns.iter_mut().enumerate() {
+        *column = byte_at(place, rest);
         rest /= 10;
     }
+    columns.reverse();
 }
 
 // The byte so many places from the right, where `rest` is the number without the digits right of that place.

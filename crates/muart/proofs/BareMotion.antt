@@ -44,8 +44,8 @@ unfolding timer_step
 step_quiet s q =
     let f = firing (modes_of s.rest.registers) s.rest.timers in
     λ i. with_timers (stepped (modes_of s.rest.registers) s.rest.timers)
-        (with_mask (levels_kept s.rest.registers f s.rest.mask s.sensitive.levels.requests q i)
-        (with_requests (requests_kept s.rest.registers f s.rest.mask s.sensitive.levels.requests q i) s))
+    (with_mask (levels_kept s.rest.registers f s.rest.mask s.sensitive.levels.requests q i)
+    (with_requests (requests_kept s.rest.registers f s.rest.mask s.sensitive.levels.requests q i) s))
 
 -- a rate tick that records nothing
 pub tick_quiet : (s : StandIn) → ending s.rest.serial.transmitter.phase ≡ false → told s.rest.serial.rxd s.rest.serial.receiver ≡ None → serial_tick s ≡ serial_bare s

@@ -1,7 +1,9 @@
 -- What one turn of a look keeps.
-use Rattle.std.proofs.Common.{◌≡◌, ℕ, ◌+◌, ◌<◌, ◌≤◌, List, ◌++◌, length, get_or, take, drop, set, Some, None, Ok, Err, sym, refl, ◌∙◌, append_assoc, take-append-drop, arith}
+use Rattle.std.proofs.Common.{◌≡◌, ℕ, ◌+◌, ◌<◌, ◌≤◌, List, ◌++◌, length, get_or, take, drop, set, Some, None, Ok, Err, Option, sym, refl, ap, ◌∙◌, append_assoc, take-append-drop, arith}
 use Rattle.std.proofs.lemmas.List.{drop_all, drop_more, drop-set-lt, take_more_set}
-use Rattle.registers.specs.declared.refusal.Refusal.TheVariants.{NoSuchRegister}
+use Rattle.std.specs.Option.{ok_or}
+use Rattle.refusals.specs.declared.refusal.Refusal.{Refusal}
+use Rattle.refusals.specs.declared.refusal.Refusal.TheVariants.{NoSuchRegister}
 use Rattle.registers.specs.declared.register.Register.{Register}
 use Rattle.muart.specs.declared.state.Rest.{Rest}
 use Rattle.muart.specs.declared.state.Sensitive.{Sensitive}
@@ -9,6 +11,15 @@ use Rattle.registers.specs.Bus.{register_of}
 use Rattle.muart.specs.declared.read.Reading.{Reading}
 use Rattle.muart.specs.Reading.{read_byte, read_leaves, reading}
 use Rattle.muart.specs.Looks.{all_known, looked}
+
+-- what a search that gives an error for none found
+pub found : (o : Option Register) (g : Register) → Ok g ≡ ok_or o NoSuchRegister → o ≡ Some g
+found None g e = let z : ◌≡◌ {A = ℕ} 0 1 = cc in absurd (omega arith)
+found (Some h) g e = let is : h ≡ g = cc in ap Some is
+
+pub not_found : (o : Option Register) (f : Refusal) → Err f ≡ ok_or o NoSuchRegister → (o ≡ None) × (f ≡ NoSuchRegister)
+not_found None f e = (refl, cc)
+not_found (Some h) f e = let z : ◌≡◌ {A = ℕ} 0 1 = cc in absurd (omega arith)
 
 -- the slots read so far, and what the rest of the look makes of the others
 abbrev pub so_far : List ℕ → Rest → Sensitive → List ℕ → ℕ → List ℕ

@@ -23,4 +23,4 @@ module _ (g : Registers) (f : Fired) (mask recorded : List Bool) (q : Quiet f (w
       ) refl
 
   pub levels_kept : fired_mask g f mask ≡ mask
-  levels_kept = mask_kept (modes_of g).t35 (modes_of g).t5c f.three f.five _ _ mask q.three q.five
+  levels_kept = mask_kept (modes_of g).odd.joined (modes_of g).t5c f.three f.five _ _ mask q.three q.five

@@ -10,7 +10,12 @@ use Rattle.muart.specs.State.{with_mask, with_requests}
 
 -- mode bits 7 T35, 6 T24, 5 T5C, 4 CT3, 3 CT2
 abbrev pub modes_of : Registers → TimerModes
-modes_of g = record { t35 = bit_of 7 g.mode; t24 = bit_of 6 g.mode; t5c = bit_of 5 g.mode; ct3 = bit_of 4 g.mode; ct2 = bit_of 3 g.mode }
+modes_of g =
+    record {
+      even = record { joined = bit_of 6 g.mode; counts_edges = bit_of 3 g.mode };
+      odd = record { joined = bit_of 7 g.mode; counts_edges = bit_of 4 g.mode };
+      t5c = bit_of 5 g.mode;
+    }
 
 -- command 1 bit 2, BITI: level 1 is a rise of P17 and not timer 2
 abbrev pub biti_of : Registers → Bool
@@ -31,11 +36,11 @@ fired_requests g f mask requests =
 
 -- the level of timer 5, or of its pair
 abbrev pub own_level : TimerModes → ℕ
-own_level m = cond m.t35 3 7
+own_level m = cond m.odd.joined 3 7
 
 -- under T5C the request of timer 5, or of its pair, disables its own level
 abbrev pub disables : TimerModes → Fired → Bool
-disables m f = m.t5c && cond m.t35 f.three f.five
+disables m f = m.t5c && cond m.odd.joined f.three f.five
 
 abbrev pub fired_mask : Registers → Fired → List Bool → List Bool
 fired_mask g f mask = cond (disables (modes_of g) f) (slice_set mask (own_level (modes_of g)) false) mask
@@ -59,7 +64,7 @@ abbrev pub watched : Registers → List Bool → List Bool → Fired
 watched g mask requests = record {
   one = unasked 0 mask requests;
   two = not (biti_of g) && unasked 1 mask requests;
-  three = heeded ((modes_of g).t5c && (modes_of g).t35) 3 mask requests;
+  three = heeded ((modes_of g).t5c && (modes_of g).odd.joined) 3 mask requests;
   four = unasked 6 mask requests;
-  five = heeded ((modes_of g).t5c && not (modes_of g).t35) 7 mask requests;
+  five = heeded ((modes_of g).t5c && not (modes_of g).odd.joined) 7 mask requests;
 }

@@ -1,7 +1,7 @@
 -- What a look answers and writes.
 use Rattle.std.specs.Prelude.{ℕ, cond, List, [], ◌∷◌, length, Some, None, Ok, Err, Result, nat_lt}
-use Rattle.registers.specs.declared.refusal.Refusal.{Refusal}
-use Rattle.registers.specs.declared.refusal.Refusal.TheVariants.{PlaceTooShort, NoSuchRegister}
+use Rattle.refusals.specs.declared.refusal.Refusal.{Refusal}
+use Rattle.refusals.specs.declared.refusal.Refusal.TheVariants.{PlaceTooShort, NoSuchRegister}
 use Rattle.muart.specs.declared.state.Rest.{Rest}
 use Rattle.muart.specs.declared.state.Sensitive.{Sensitive}
 use Rattle.registers.specs.Bus.{register_of}

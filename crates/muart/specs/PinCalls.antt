@@ -1,9 +1,11 @@
 -- Setting the outside level of a pin.
 use Rattle.std.specs.Prelude.{ℕ, Bool, true, false, cond, Some, None, Ok, Err, Option, Result, ◌==◌, slice_set}
-use Rattle.timers.specs.Stepping.{counted_two, firing_two, counted_three, firing_three}
+use Rattle.timers.specs.Stepping.{edge_counted, edge_firing}
+use Rattle.timers.specs.declared.modes.Side.{Side}
+use Rattle.timers.specs.declared.modes.Side.TheVariants.{Even, Odd}
 use Rattle.timers.specs.Access.{triggered}
-use Rattle.registers.specs.declared.refusal.Refusal.{Refusal}
-use Rattle.registers.specs.declared.refusal.Refusal.TheVariants.{NoSuchPin, OutputPin}
+use Rattle.refusals.specs.declared.refusal.Refusal.{Refusal}
+use Rattle.refusals.specs.declared.refusal.Refusal.TheVariants.{NoSuchPin, OutputPin}
 use Rattle.registers.specs.declared.pins.Pin.{Pin}
 use Rattle.registers.specs.declared.pins.Pin.TheVariants.{Port1, Port2, Cts, Extint}
 use Rattle.registers.specs.declared.held.Pins.{Pins}
@@ -21,13 +23,18 @@ set_outside (Port2 n) v p = record p { port2 = slice_set p.port2 n v }
 set_outside Cts v p = record p { cts = v }
 set_outside Extint v p = record p { extint = v }
 
+-- a counted edge of timer 2 or 3, or of its pair
+abbrev pub counts : Side → StandIn → StandIn
+counts side s =
+    timers_moved (edge_counted side (modes_of s.rest.registers) s.rest.timers) (edge_firing side (modes_of s.rest.registers) s.rest.timers) s
+
 -- with CT2 a rise of P12 steps timer 2, or its pair
 abbrev pub counts_two : StandIn → StandIn
-counts_two s = timers_moved (counted_two (modes_of s.rest.registers) s.rest.timers) (firing_two (modes_of s.rest.registers) s.rest.timers) s
+counts_two = counts Even
 
 -- with CT3 a rise of P13 steps timer 3, or its pair
 abbrev pub counts_three : StandIn → StandIn
-counts_three s = timers_moved (counted_three (modes_of s.rest.registers) s.rest.timers) (firing_three (modes_of s.rest.registers) s.rest.timers) s
+counts_three = counts Odd
 
 -- with T5C a fall of P15 loads timer 5
 abbrev pub triggers : StandIn → StandIn

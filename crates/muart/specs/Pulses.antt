@@ -1,7 +1,7 @@
 -- Acknowledge pulses.
 use Rattle.std.specs.Prelude.{ℕ, ◌+◌, ◌*◌, false, cond, Some, None, Ok, Err, Option, Result}
-use Rattle.registers.specs.declared.refusal.Refusal.{Refusal}
-use Rattle.registers.specs.declared.refusal.Refusal.TheVariants.{AcknowledgeDisabled, WrongFamily, InterruptLow, AlreadyBegun, NoneBegun}
+use Rattle.refusals.specs.declared.refusal.Refusal.{Refusal}
+use Rattle.refusals.specs.declared.refusal.Refusal.TheVariants.{AcknowledgeDisabled, WrongFamily, InterruptLow, AlreadyBegun, NoneBegun}
 use Rattle.registers.specs.declared.words.Family.{Family}
 use Rattle.muart.specs.declared.state.StandIn.{StandIn}
 use Rattle.muart.specs.declared.pulse.Begun.{Begun}

@@ -3,8 +3,8 @@ use Rattle.std.specs.Prelude.{ℕ, Bool, true, false, cond, not, ◌&&◌, List,
 use Rattle.levels.specs.Sets.{union, minus, ended}
 use Rattle.levels.specs.Bytes.{flags}
 use Rattle.timers.specs.Access.{cleared_timers, written as timer_written, selected}
-use Rattle.registers.specs.declared.refusal.Refusal.{Refusal}
-use Rattle.registers.specs.declared.refusal.Refusal.TheVariants.{UnlawfulWord}
+use Rattle.refusals.specs.declared.refusal.Refusal.{Refusal}
+use Rattle.refusals.specs.declared.refusal.Refusal.TheVariants.{UnlawfulWord}
 use Rattle.registers.specs.declared.pins.Port.{Port}
 use Rattle.registers.specs.declared.pins.Port.TheVariants.{One, Two}
 use Rattle.registers.specs.declared.register.Register.{Register}
@@ -20,7 +20,7 @@ use Rattle.muart.specs.Serial.{sent}
 use Rattle.muart.specs.declared.state.Serial.{Serial}
 use Rattle.serial.specs.Sending.{fresh}
 use Rattle.serial.specs.declared.receiver.Receiver.{Receiver}
-use Rattle.serial.specs.declared.receiver.Receiver.TheVariants.{Idle}
+use Rattle.serial.specs.declared.stage.Stage.TheVariants.{Idle}
 
 -- no level
 abbrev pub no_level : List Bool

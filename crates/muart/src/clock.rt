@@ -1,15 +1,40 @@
 // One system clock of the stand-in, and many at once.
 ghost use Rattle.std.specs.Prelude.{◌≡◌, ℕ, ◌+◌, ◌*◌, ◌/◌, ◌≤◌, min};
 ghost use Rattle.timing.specs.Run.{times};
+ghost use Rattle.serial.specs.Rates.{rate_step};
+ghost use Rattle.registers.specs.Words.{prescale_of, divide_of};
 ghost use Rattle.muart.specs.Serial.{rate_in};
 ghost use Rattle.muart.specs.Clock.{timer_step, timed, rated, internal_clock, clocked, ticks_in, quiet_rate_ticks, quiet_at_rate, quiet_clocks, Still};
 
 use crate::state::StandIn;
+use registers::held::Registers;
 use registers::words::{divide, prescale};
 use serial::rate::rate_step;
 use timers::FAR;
+use timing::Ratio;
 
+// Baud times the ticks to a bit, in each internal clock, make a rate tick whenever this much is reached.
 const RATE_MODULUS: u32 = 1_024_000;
+
+// Every p-th system clock ends an internal clock.
+fn clock_ratio(registers: &Registers) -> Ratio
+    ensures { result ≡ record { step = 1; modulus = prescale_of registers.now.command2 } }
+{
+    Ratio::new(1, prescale(registers.command2))
+}
+
+// Every 64th internal clock, or every 1024th, is a timer step.
+fn step_ratio(registers: &Registers) -> Ratio
+    ensures { result ≡ record { step = 1; modulus = divide_of registers.now.command1 } }
+{
+    Ratio::new(1, divide(registers.command1))
+}
+
+fn rate_ratio(registers: &Registers) -> Ratio
+    ensures { result ≡ record { step = rate_step registers.now.command2; modulus = 1024000 } }
+{
+    Ratio::new(rate_step(registers.command2), RATE_MODULUS)
+}
 
 impl StandIn {
     #[tactic(auto, unfolding(crate::specs::Clock::timer_step))]
@@ -24,8 +49,8 @@ impl StandIn {
     fn time(&mut self)
         ensures { self.new ≡ timed self.old }
     {
-        let modulus = divide(self.rest.registers.command1);
-        if self.rest.dividers.steps.advance(1, modulus) {
+        let ratio = step_ratio(&self.rest.registers);
+        if self.rest.dividers.steps.advance(ratio) {
             self.step_timers();
         }
     }
@@ -33,8 +58,8 @@ impl StandIn {
     fn rate(&mut self)
         ensures { self.new ≡ rated self.old }
     {
-        let step = rate_step(self.rest.registers.command2);
-        if self.rest.dividers.remainder.advance(step, RATE_MODULUS) {
+        let ratio = rate_ratio(&self.rest.registers);
+        if self.rest.dividers.remainder.advance(ratio) {
             self.tick_serial();
         }
     }
@@ -52,8 +77,8 @@ impl StandIn {
     pub fn clock(&mut self)
         ensures after { self.new ≡ clocked self.old }
     {
-        let modulus = prescale(self.rest.registers.command2);
-        if self.rest.dividers.prescaler.advance(1, modulus) {
+        let ratio = clock_ratio(&self.rest.registers);
+        if self.rest.dividers.prescaler.advance(ratio) {
             self.internal_clock();
         }
     }
@@ -65,14 +90,11 @@ impl StandIn {
     {
         let sending = self.rest.serial.transmitter.horizon();
         let ticks = FAR.min(sending.min(self.rest.serial.receiver.horizon()));
-        let step = rate_step(self.rest.registers.command2);
-        if step == 0 {
+        if rate_step(self.rest.registers.command2) == 0 {
             return FAR;
         }
-        self.rest
-            .dividers
-            .remainder
-            .reach(ticks, step, RATE_MODULUS)
+        let ratio = rate_ratio(&self.rest.registers);
+        self.rest.dividers.remainder.reach(ticks, ratio)
     }
 
     // How many clocks pass with nothing but counts, dividers and ticks within a bit moving.
@@ -81,18 +103,12 @@ impl StandIn {
         ensures still { (n : ℕ) → n ≤ result → Still n self.now }
     {
         let registers = &self.rest.registers;
+        let dividers = &self.rest.dividers;
         let fires = self.rest.timers.horizon(self.timer_modes(), self.watched());
         let steps = FAR.min(fires);
-        let most = self
-            .rest
-            .dividers
-            .steps
-            .reach(steps, 1, divide(registers.command1));
+        let most = dividers.steps.reach(steps, step_ratio(registers));
         let internals = FAR.min(most.min(self.horizon_at_rate()));
-        self.rest
-            .dividers
-            .prescaler
-            .reach(internals, 1, prescale(registers.command2))
+        dividers.prescaler.reach(internals, clock_ratio(registers))
     }
 
     // Many clocks at once, of which none is past the horizon.
@@ -103,17 +119,12 @@ impl StandIn {
         ensures ticks { (n : ℕ) → ticks_in n self.old ≡ (self.old.rest.dividers.remainder.at + n * rate_in self.old) / 1024000 }
     {
         let modes = self.timer_modes();
-        let prescaler = prescale(self.rest.registers.command2);
-        let divider = divide(self.rest.registers.command1);
-        let internals = self.rest.dividers.prescaler.skip(clocks, 1, prescaler);
-        let steps = self.rest.dividers.steps.skip(internals, 1, divider);
+        let registers = self.rest.registers;
+        let dividers = &mut self.rest.dividers;
+        let internals = dividers.prescaler.skip(clocks, clock_ratio(&registers));
+        let steps = dividers.steps.skip(internals, step_ratio(&registers));
+        let ticks = dividers.remainder.skip(internals, rate_ratio(&registers));
         self.rest.timers.skip(steps, modes);
-        let rate = rate_step(self.rest.registers.command2);
-        let ticks = self
-            .rest
-            .dividers
-            .remainder
-            .skip(internals, rate, RATE_MODULUS);
         self.rest.serial.transmitter.skip(ticks);
         self.rest.serial.receiver.skip(ticks);
     }

@@ -1,10 +1,11 @@
 // What the timers that step from 1 to 0 do to the levels.
-ghost use Rattle.std.specs.Prelude.{◌≡◌, ◌<◌};
+ghost use Rattle.std.specs.Prelude.{◌≡◌};
 ghost use Rattle.muart.specs.Firing.{modes_of, biti_of, asks as asked, recorded, unasked as is_unasked, heeded as is_heeded, watched as timers_watched};
 
 use crate::state::StandIn;
-use registers::words::bit;
-use timers::{Fired, TimerModes};
+use bits::bit;
+use levels::Level;
+use timers::{DuoModes, Fired, TimerModes};
 
 impl StandIn {
     pub fn timer_modes(&self) -> TimerModes
@@ -12,11 +13,15 @@ impl StandIn {
     {
         let mode = self.rest.registers.mode;
         TimerModes {
-            t35: bit(mode, 7),
-            t24: bit(mode, 6),
+            even: DuoModes {
+                joined: bit(mode, 6),
+                counts_edges: bit(mode, 3),
+            },
+            odd: DuoModes {
+                joined: bit(mode, 7),
+                counts_edges: bit(mode, 4),
+            },
             t5c: bit(mode, 5),
-            ct3: bit(mode, 4),
-            ct2: bit(mode, 3),
         }
     }
 
@@ -28,8 +33,7 @@ impl StandIn {
     }
 
     // If it asks and is enabled, the level requests.
-    pub(crate) fn request(&mut self, level: u8, asks: bool)
-        requires { level < 8 }
+    pub(crate) fn request(&mut self, level: Level, asks: bool)
         ensures { self.new ≡ asked asks level self.old }
     {
         levels::request_if(
@@ -46,30 +50,29 @@ impl StandIn {
     {
         let modes = self.timer_modes();
         let biti = self.biti();
-        self.request(0, fired.one);
-        self.request(1, fired.two && !biti);
-        self.request(3, fired.three);
-        self.request(6, fired.four);
-        self.request(7, fired.five);
-        if modes.t35 {
-            levels::clear_if(&mut self.rest.mask, 3, modes.t5c && fired.three);
+        self.request(Level::new(0), fired.one);
+        self.request(Level::new(1), fired.two && !biti);
+        self.request(Level::new(3), fired.three);
+        self.request(Level::new(6), fired.four);
+        self.request(Level::new(7), fired.five);
+        if modes.odd.joined {
+            levels::clear_if(&mut self.rest.mask, Level::new(3), modes.t5c && fired.three);
         } else {
-            levels::clear_if(&mut self.rest.mask, 7, modes.t5c && fired.five);
+            levels::clear_if(&mut self.rest.mask, Level::new(7), modes.t5c && fired.five);
         }
     }
 
-    fn unasked(&self, level: usize) -> bool
-        requires { level < 8 }
+    fn unasked(&self, level: Level) -> bool
         ensures { result ≡ is_unasked level self.now.rest.mask self.now.sensitive.levels.requests }
     {
-        self.rest.mask[level] && !self.sensitive.levels.requests[level]
+        self.rest.mask[level.index()] && !self.sensitive.levels.requests[level.index()]
     }
 
-    fn heeded(&self, level: usize, disabling: bool) -> bool
-        requires { level < 8 }
+    fn heeded(&self, level: Level, disabling: bool) -> bool
         ensures { result ≡ is_heeded disabling level self.now.rest.mask self.now.sensitive.levels.requests }
     {
-        self.rest.mask[level] && (disabling || !self.sensitive.levels.requests[level])
+        self.rest.mask[level.index()]
+            && (disabling || !self.sensitive.levels.requests[level.index()])
     }
 
     // The timers whose firing would change the requests or the mask.
@@ -79,11 +82,11 @@ impl StandIn {
         let modes = self.timer_modes();
         let biti = self.biti();
         Fired {
-            one: self.unasked(0),
-            two: !biti && self.unasked(1),
-            three: self.heeded(3, modes.t5c && modes.t35),
-            four: self.unasked(6),
-            five: self.heeded(7, modes.t5c && !modes.t35),
+            one: self.unasked(Level::new(0)),
+            two: !biti && self.unasked(Level::new(1)),
+            three: self.heeded(Level::new(3), modes.t5c && modes.odd.joined),
+            four: self.unasked(Level::new(6)),
+            five: self.heeded(Level::new(7), modes.t5c && !modes.odd.joined),
         }
     }
 }

@@ -4,7 +4,7 @@ ghost use Rattle.muart.specs.Looks.{look_answer, look_writes};
 
 use crate::read::read;
 use crate::state::{Rest, Sensitive, StandIn};
-use registers::refusal::Refusal;
+use refusals::Refusal;
 use registers::register::Register;
 
 // Puts the read-sensitive record back, however the look ends.
@@ -43,9 +43,7 @@ pub fn look(
     };
     // Tried without `at`, by a zip with `iter_mut`: the proof did not close, since it knows nothing of what such a zip wrote.
     for (at, number) in registers.iter().enumerate() {
-        let Some(register) = Register::numbered(*number) else {
-            return Err(Refusal::NoSuchRegister);
-        };
+        let register = Register::try_from(*number)?;
         place[at] = read(rest, guard.held, register).byte;
     }
     Ok(())

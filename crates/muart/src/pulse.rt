@@ -1,9 +1,10 @@
 // Acknowledge pulses.
-ghost use Rattle.std.specs.Prelude.{◌≡◌, ◌<◌, true, IfOk};
+ghost use Rattle.std.specs.Prelude.{◌≡◌, true};
 ghost use Rattle.muart.specs.Pulses.{pulse_level, pulsed, single_answer, single_level, first_answer, first_level, begins, second_answer, second_leaves};
 
 use crate::state::StandIn;
-use registers::refusal::Refusal;
+use levels::Level;
+use refusals::Refusal;
 use registers::words::Family;
 
 // The first pulse of the 8086 family leaves this half of an acknowledge with the host. Only the second pulse
@@ -24,26 +25,25 @@ impl Drop for Half {
 #[derive(Clone, Copy)]
 pub struct Acknowledged {
     pub byte: u8,
-    pub level: u8,
+    pub level: Level,
 }
 
 // The half that a first pulse leaves, and the level that it took.
 pub struct Begun {
     pub half: Half,
-    pub level: u8,
+    pub level: Level,
 }
 
 impl StandIn {
     // The tests of a pulse of a host of `family`, and then the taking.
-    fn pulse(&mut self, family: Family) -> Result<u8, Refusal>
+    fn pulse(&mut self, family: Family) -> Result<Level, Refusal>
         ensures answer { result ≡ pulse_level family self.old }
         ensures after { self.new ≡ pulsed result self.old }
-        ensures within { IfOk result (λ l. l < 8) }
     {
         if !self.rest.registers.control.iae {
             return Err(Refusal::AcknowledgeDisabled);
         }
-        if !family.is(self.family()) {
+        if family != self.family() {
             return Err(Refusal::WrongFamily);
         }
         if !self.interrupts() {
@@ -52,13 +52,14 @@ impl StandIn {
         if self.rest.begun.is_some() {
             return Err(Refusal::AlreadyBegun);
         }
-        levels::take(
-            &mut self.sensitive.levels,
-            &self.rest.mask,
-            self.rest.pins.extint,
-            self.rest.registers.control.nie,
-        )
-        .ok_or(Refusal::InterruptLow)
+        self.sensitive
+            .levels
+            .take(
+                &self.rest.mask,
+                self.rest.pins.extint,
+                self.rest.registers.control.nie,
+            )
+            .ok_or(Refusal::InterruptLow)
     }
 
     // The single pulse of the 8085 family.
@@ -69,7 +70,7 @@ impl StandIn {
     {
         let level = self.pulse(Family::I8085)?;
         Ok(Acknowledged {
-            byte: 199 + 8 * level,
+            byte: 199 + 8 * level.number(),
             level,
         })
     }
@@ -95,6 +96,6 @@ impl StandIn {
     {
         half.spent = true;
         let level = self.rest.begun.take().ok_or(Refusal::NoneBegun)?;
-        Ok(64 + level)
+        Ok(64 + level.number())
     }
 }

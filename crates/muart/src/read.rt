@@ -6,8 +6,8 @@ ghost use Rattle.muart.specs.Reading.{control_byte, status_byte, int_high, readi
 ghost use Rattle.muart.specs.State.{with_sensitive};
 
 use crate::state::{Flags, Rest, Sensitive, StandIn};
+use levels::Level;
 use registers::held::Control;
-use registers::pins::read_port;
 use registers::register::Register;
 use registers::words::Family;
 use serial::transmitter::Transmitter;
@@ -16,20 +16,17 @@ use serial::transmitter::Transmitter;
 #[derive(Clone, Copy)]
 pub struct Reading {
     pub byte: u8,
-    pub taken: Option<u8>,
+    pub taken: Option<Level>,
 }
 
 // INT is high exactly when a level is ready.
 pub fn interrupts(rest: &Rest, sensitive: &Sensitive) -> bool
     ensures { result ≡ int_high rest.now sensitive.now }
 {
-    let requesting = levels::requesting(&sensitive.levels.requests, &rest.mask, rest.pins.extint);
-    levels::ready(
-        &requesting,
-        &sensitive.levels.service,
-        rest.registers.control.nie,
-    )
-    .is_some()
+    let levels = &sensitive.levels;
+    levels
+        .due(&rest.mask, rest.pins.extint, rest.registers.control.nie)
+        .is_some()
 }
 
 // Bits 6, 5 and 4; the others of command 3 do not read back.
@@ -68,13 +65,10 @@ fn read_interrupt_address(rest: &Rest, sensitive: &mut Sensitive) -> Reading
     ensures answer { result ≡ reading Register.InterruptAddress rest.now sensitive.old }
     ensures after { sensitive.new ≡ read_leaves Register.InterruptAddress rest.now sensitive.old }
 {
-    let taken = levels::take(
-        &mut sensitive.levels,
-        &rest.mask,
-        rest.pins.extint,
-        rest.registers.control.nie,
-    );
-    let byte = taken.map_or(255, |level| 4 * level);
+    let taken = sensitive
+        .levels
+        .take(&rest.mask, rest.pins.extint, rest.registers.control.nie);
+    let byte = taken.as_ref().map_or(255, |level| 4 * level.number());
     Reading { byte, taken }
 }
 
@@ -117,7 +111,7 @@ pub fn read(rest: &Rest, sensitive: &mut Sensitive, register: Register) -> Readi
         Register::Mode => rest.registers.mode,
         Register::Port1Control => rest.registers.direction1,
         Register::Mask => levels::byte_of(&rest.mask),
-        Register::Pins(port) => read_port(&rest.registers, &rest.pins, port),
+        Register::Pins(port) => rest.registers.read_port(&rest.pins, port),
         Register::Timer(number) => rest.timers.read(number),
     };
     Reading { byte, taken: None }

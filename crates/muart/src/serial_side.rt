@@ -1,17 +1,16 @@
 // The serial side within the stand-in.
 ghost use Rattle.std.specs.Prelude.{◌≡◌, Some};
-ghost use Rattle.serial.specs.Forms.{SoundForm};
 ghost use Rattle.muart.specs.Serial.{form_in, txd_level, transmitter_tick, reception_kept, receiver_tick, serial_tick, rxd_set, sent, cts_fell};
 
 use crate::state::StandIn;
+use levels::Level;
 use serial::form::Form;
 use serial::receiver::{Event, Reception};
 
 impl StandIn {
     // The form that commands 1 and 2 give now.
     fn form(&self) -> Form
-        ensures value { result ≡ form_in self.now }
-        ensures sound { SoundForm result }
+        ensures { result ≡ form_in self.now }
     {
         Form::of(self.rest.registers.command1, self.rest.registers.command2)
     }
@@ -28,7 +27,7 @@ impl StandIn {
         let form = self.form();
         let cts = self.rest.pins.cts;
         let asks = self.rest.serial.transmitter.tick(form, cts);
-        self.request(5, asks);
+        self.request(Level::new(5), asks);
     }
 
     fn keep(&mut self, reception: Reception)
@@ -49,7 +48,7 @@ impl StandIn {
                 self.rest.serial.received = character;
             }
         }
-        self.request(4, true);
+        self.request(Level::new(4), true);
     }
 
     fn tick_receiver(&mut self)
@@ -89,7 +88,7 @@ impl StandIn {
         let form = self.form();
         let cts = self.rest.pins.cts;
         let asks = self.rest.serial.transmitter.write(character, form, cts);
-        self.request(5, asks);
+        self.request(Level::new(5), asks);
     }
 
     // CTS fell: a waiting character may load.
@@ -98,6 +97,6 @@ impl StandIn {
     {
         let form = self.form();
         let asks = self.rest.serial.transmitter.release(form);
-        self.request(5, asks);
+        self.request(Level::new(5), asks);
     }
 }

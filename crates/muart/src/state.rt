@@ -1,5 +1,5 @@
 // What the stand-in holds.
-use levels::Pending;
+use levels::{Level, Pending};
 use registers::held::{Pins, Registers};
 use serial::receiver::Receiver;
 use serial::transmitter::Transmitter;
@@ -47,7 +47,7 @@ pub struct Rest {
     pub registers: Registers,
     pub pins: Pins,
     pub mask: [bool; 8],
-    pub begun: Option<u8>,
+    pub begun: Option<Level>,
     pub timers: Timers,
     pub dividers: Dividers,
     pub serial: Serial,

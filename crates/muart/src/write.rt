@@ -3,12 +3,13 @@ ghost use Rattle.std.specs.Prelude.{◌≡◌};
 ghost use Rattle.muart.specs.Writing.{reset_to, was_reset, powered_up, lawful as is_lawful, controlled, left_in_service, left_receiving, commanded3, stored, write_answer, write_leaves};
 
 use crate::state::{Dividers, Flags, Rest, Sensitive, Serial, StandIn};
+use bits::bit;
 use levels::Pending;
+use refusals::Refusal;
 use registers::held::{Control, Pins, Registers};
 use registers::pins::Port;
-use registers::refusal::Refusal;
 use registers::register::Register;
-use registers::words::{bit, lawful_command1, lawful_command2, lawful_command3, lawful_mode};
+use registers::words::{lawful_command1, lawful_command2, lawful_command3, lawful_mode};
 use serial::receiver::Receiver;
 use serial::transmitter::Transmitter;
 use timers::Timers;
@@ -18,20 +19,6 @@ const NO_PHASE: Dividers = Dividers {
     prescaler: Accumulator { at: 0 },
     steps: Accumulator { at: 0 },
     remainder: Accumulator { at: 0 },
-};
-
-const NO_WORDS: Registers = Registers {
-    command1: 0,
-    command2: 0,
-    control: Control {
-        rxe: false,
-        iae: false,
-        nie: false,
-    },
-    mode: 0,
-    direction1: 0,
-    latch1: 0,
-    latch2: 0,
 };
 
 fn lawful(register: Register, word: u8) -> bool
@@ -85,7 +72,7 @@ impl StandIn {
     {
         StandIn {
             rest: Rest {
-                registers: NO_WORDS,
+                registers: Registers::default(),
                 pins,
                 mask: [false; 8],
                 begun: None,
@@ -99,10 +86,7 @@ impl StandIn {
                 },
             },
             sensitive: Sensitive {
-                levels: Pending {
-                    requests: [false; 8],
-                    service: [false; 8],
-                },
+                levels: Pending::new(),
                 flags: Flags::default(),
             },
         }

@@ -1,4 +1,3 @@
-pub mod Refusals
 pub mod Words
 pub mod Bus
 pub mod Ports

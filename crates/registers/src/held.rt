@@ -1,7 +1,7 @@
 // The words that the host wrote, and the outside levels of the pins.
 
 // RxE, IAE and NIE, which command 3 sets and clears.
-#[derive(Clone, Copy)]
+#[derive(Clone, Copy, Default)]
 pub struct Control {
     pub rxe: bool,
     pub iae: bool,
@@ -9,7 +9,7 @@ pub struct Control {
 }
 
 // The words that the host wrote. `direction1` is port 1 control; `latch1` and `latch2` are what was written to the ports.
-#[derive(Clone, Copy)]
+#[derive(Clone, Copy, Default)]
 pub struct Registers {
     pub command1: u8,
     pub command2: u8,
@@ -21,7 +21,7 @@ pub struct Registers {
 }
 
 // The outside levels of the pins. They survive a reset.
-#[derive(Clone, Copy)]
+#[derive(Clone, Copy, Default)]
 pub struct Pins {
     pub port1: [bool; 8],
     pub port2: [bool; 8],

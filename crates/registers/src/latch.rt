@@ -1,10 +1,10 @@
 // The latched address of a bus cycle.
-ghost use Rattle.std.specs.Prelude.{◌≡◌};
-ghost use Rattle.registers.specs.Bus.{strobed};
+ghost use Rattle.std.specs.Prelude.{◌≡◌, ◌<◌, ◌≤◌, IfOk};
+ghost use Rattle.registers.specs.Bus.{numbered_by, strobed};
 
-use crate::refusal::Refusal;
 use crate::register::Register;
 use crate::words::Family;
+use refusals::Refusal;
 
 // It is moved into the one strobe that it is for, so a second strobe on it does not compile.
 #[derive(Drop)]
@@ -30,15 +30,20 @@ impl Latched {
         if !self.selected {
             return Err(Refusal::NotSelected);
         }
-        let number = match family {
-            Family::I8085 => self.address % 16,
-            Family::I8086 => {
-                if self.address % 2 == 1 {
-                    return Err(Refusal::NotSelected);
-                }
-                self.address / 2
-            }
-        };
-        Register::numbered(number).ok_or(Refusal::AddressTooHigh)
+        let number = numbered(family, self.address)?;
+        // Four bits name a register in any case.
+        Register::try_from(number)
+    }
+}
+
+// The register number that an address says in the way of the family.
+fn numbered(family: Family, address: u8) -> Result<u8, Refusal>
+    ensures value { result ≡ numbered_by family address }
+    ensures few { IfOk result (λ number. address ≤ 31 → number < 16) }
+{
+    match family {
+        Family::I8085 => Ok(address % 16),
+        Family::I8086 if address % 2 == 1 => Err(Refusal::NotSelected),
+        Family::I8086 => Ok(address / 2),
     }
 }

@@ -1,15 +1,17 @@
 // The pins: their directions and levels.
-ghost use Rattle.std.specs.Prelude.{◌≡◌, ◌^◌, ◌<◌, IfSome, if◌then◌else◌};
-ghost use Rattle.registers.specs.Ports.{pin_of, Placed, used_as_input, is_output, outside, latch_at, level_at, pin_at, port_byte};
+ghost use Rattle.std.specs.Prelude.{◌≡◌};
+ghost use Rattle.registers.specs.Ports.{used_as_input, is_output, outside, latch_at, level_at, pin_at, port_byte};
 
 use crate::held::{Pins, Registers};
-use crate::words::bit;
+use bits::{Place, bit, weight};
+use refusals::Refusal;
 
-// A pin of port 1 or 2 by its place, or one of the two others that have a code.
+// A pin of port 1 or 2 by its place, or one of the two others that have a code. Calls take it by reference: a `Copy` enum
+// that holds a type with a model is not copied when it is passed by value twice.
 #[derive(Clone, Copy)]
 pub enum Pin {
-    Port1(u8),
-    Port2(u8),
+    Port1(Place),
+    Port2(Place),
     Cts,
     Extint,
 }
@@ -20,8 +22,29 @@ pub enum Port {
     Two,
 }
 
+impl TryFrom<u8> for Pin {
+    ghost use Rattle.std.specs.Prelude.{◌≡◌};
+    ghost use Rattle.std.specs.Option.{ok_or};
+    ghost use Rattle.refusals.specs.declared.refusal.Refusal.TheVariants.{NoSuchPin};
+    ghost use Rattle.registers.specs.Ports.{pin_of};
+
+    type Error = Refusal;
+
+    ghost try_from_gives = { λ code pin. pin ≡ ok_or (pin_of code) NoSuchPin };
+
+    fn try_from(code: u8) -> Result<Pin, Refusal> {
+        match code {
+            0..=7 => Ok(Pin::Port1(Place::new(code))),
+            8..=15 => Ok(Pin::Port2(Place::new(code - 8))),
+            16 => Ok(Pin::Cts),
+            17 => Ok(Pin::Extint),
+            _ => Err(Refusal::NoSuchPin),
+        }
+    }
+}
+
 impl Port {
-    fn pin(self, place: u8) -> Pin
+    fn pin(self, place: Place) -> Pin
         ensures { result ≡ pin_at self place }
     {
         match self {
@@ -31,99 +54,76 @@ impl Port {
     }
 }
 
-impl Pin {
-    pub fn coded(code: u8) -> Option<Pin>
-        ensures value { result ≡ pin_of code }
-        ensures within { IfSome result Placed }
+impl Pins {
+    // The level last set from outside.
+    pub fn outside_level(&self, pin: &Pin) -> bool
+        ensures { result ≡ outside self.now pin.now }
     {
-        match code {
-            0..=7 => Some(Pin::Port1(code)),
-            8..=15 => Some(Pin::Port2(code - 8)),
-            16 => Some(Pin::Cts),
-            17 => Some(Pin::Extint),
-            _ => None,
+        match *pin {
+            Pin::Port1(place) => self.port1[place.index()],
+            Pin::Port2(place) => self.port2[place.index()],
+            Pin::Cts => self.cts,
+            Pin::Extint => self.extint,
         }
     }
 }
 
-// P12, P13, P15 and P17 are inputs while they have another use.
-fn taken_as_input(registers: &Registers, place: u8) -> bool
-    ensures { result ≡ used_as_input registers.now place }
-{
-    match place {
-        2 => bit(registers.mode, 3),
-        3 => bit(registers.mode, 4),
-        5 => bit(registers.mode, 5),
-        7 => bit(registers.command1, 2),
-        _ => false,
-    }
-}
-
-// Whether the stand-in drives the pin.
-pub fn drives(registers: &Registers, pin: Pin) -> bool
-    requires { Placed pin }
-    ensures { result ≡ is_output registers.now pin }
-{
-    match pin {
-        Pin::Port1(place) => {
-            bit(registers.direction1, u32::from(place)) && !taken_as_input(registers, place)
+impl Registers {
+    // P12, P13, P15 and P17 are inputs while they have another use.
+    fn takes_as_input(&self, place: Place) -> bool
+        ensures { result ≡ used_as_input self.now place }
+    {
+        match place.number() {
+            2 => bit(self.mode, 3),
+            3 => bit(self.mode, 4),
+            5 => bit(self.mode, 5),
+            7 => bit(self.command1, 2),
+            _ => false,
         }
-        Pin::Port2(place) => bit(registers.mode, if place < 4 { 0 } else { 1 }),
-        Pin::Cts | Pin::Extint => false,
     }
-}
 
-// The level last set from outside.
-pub fn outside_level(pins: &Pins, pin: Pin) -> bool
-    requires { Placed pin }
-    ensures { result ≡ outside pins.now pin }
-{
-    match pin {
-        Pin::Port1(place) => pins.port1[place as usize],
-        Pin::Port2(place) => pins.port2[place as usize],
-        Pin::Cts => pins.cts,
-        Pin::Extint => pins.extint,
+    // Whether the stand-in drives the pin.
+    pub fn drives(&self, pin: &Pin) -> bool
+        ensures { result ≡ is_output self.now pin.now }
+    {
+        match *pin {
+            Pin::Port1(place) => {
+                bit(self.direction1, place.number()) && !self.takes_as_input(place)
+            }
+            Pin::Port2(place) => bit(self.mode, if place.number() < 4 { 0 } else { 1 }),
+            Pin::Cts | Pin::Extint => false,
+        }
     }
-}
 
-fn latch(registers: &Registers, pin: Pin) -> bool
-    requires { Placed pin }
-    ensures { result ≡ latch_at registers.now pin }
-{
-    match pin {
-        Pin::Port1(place) => bit(registers.latch1, u32::from(place)),
-        Pin::Port2(place) => bit(registers.latch2, u32::from(place)),
-        Pin::Cts | Pin::Extint => false,
+    fn latch(&self, pin: &Pin) -> bool
+        ensures { result ≡ latch_at self.now pin.now }
+    {
+        match *pin {
+            Pin::Port1(place) => bit(self.latch1, place.number()),
+            Pin::Port2(place) => bit(self.latch2, place.number()),
+            Pin::Cts | Pin::Extint => false,
+        }
     }
-}
 
-// Outputs read their latch, inputs the outside level.
-fn level(registers: &Registers, pins: &Pins, pin: Pin) -> bool
-    requires { Placed pin }
-    ensures { result ≡ level_at registers.now pins.now pin }
-{
-    if drives(registers, pin) {
-        latch(registers, pin)
-    } else {
-        outside_level(pins, pin)
+    // Outputs read their latch, inputs the outside level.
+    fn level(&self, pins: &Pins, pin: &Pin) -> bool
+        ensures { result ≡ level_at self.now pins.now pin.now }
+    {
+        if self.drives(pin) {
+            self.latch(pin)
+        } else {
+            pins.outside_level(pin)
+        }
     }
-}
 
-// What a bit at `place` adds to its byte.
-fn weight(place: u8, on: bool) -> u8
-    requires { place < 8 }
-    ensures { result ≡ (if on then 2 ^ place else 0) }
-{
-    if on { 1 << place } else { 0 }
-}
-
-// The byte that a port reads: bit n is the level of its pin n.
-pub fn read_port(registers: &Registers, pins: &Pins, port: Port) -> u8
-    ensures { result ≡ port_byte registers.now pins.now port }
-{
-    let mut byte: u8 = 0;
-    for place in 0..8 {
-        byte += weight(place, level(registers, pins, port.pin(place)));
+    // The byte that a port reads: bit n is the level of its pin n.
+    pub fn read_port(&self, pins: &Pins, port: Port) -> u8
+        ensures { result ≡ port_byte self.now pins.now port }
+    {
+        let mut byte: u8 = 0;
+        for place in 0..8 {
+            byte += weight(place, self.level(pins, &port.pin(Place::new(place))));
+        }
+        byte
     }
-    byte
 }

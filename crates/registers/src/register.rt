@@ -1,8 +1,6 @@
 // The sixteen registers.
-ghost use Rattle.std.specs.Prelude.{◌≡◌};
-ghost use Rattle.registers.specs.Bus.{register_of};
-
 use crate::pins::Port;
+use refusals::Refusal;
 use timers::Number;
 
 // A register that is written as one thing and read as another is named for what it reads.
@@ -21,28 +19,35 @@ pub enum Register {
     Status,
 }
 
-impl Register {
-    pub fn numbered(number: u8) -> Option<Register>
-        ensures { result ≡ register_of number }
-    {
+impl TryFrom<u8> for Register {
+    ghost use Rattle.std.specs.Prelude.{◌≡◌};
+    ghost use Rattle.std.specs.Option.{ok_or};
+    ghost use Rattle.refusals.specs.declared.refusal.Refusal.TheVariants.{NoSuchRegister};
+    ghost use Rattle.registers.specs.Bus.{register_of};
+
+    type Error = Refusal;
+
+    ghost try_from_gives = { λ number found. found ≡ ok_or (register_of number) NoSuchRegister };
+
+    fn try_from(number: u8) -> Result<Register, Refusal> {
         match number {
-            0 => Some(Register::Command1),
-            1 => Some(Register::Command2),
-            2 => Some(Register::Command3),
-            3 => Some(Register::Mode),
-            4 => Some(Register::Port1Control),
-            5 => Some(Register::Mask),
-            6 => Some(Register::InterruptAddress),
-            7 => Some(Register::Buffer),
-            8 => Some(Register::Pins(Port::One)),
-            9 => Some(Register::Pins(Port::Two)),
-            10 => Some(Register::Timer(Number::One)),
-            11 => Some(Register::Timer(Number::Two)),
-            12 => Some(Register::Timer(Number::Three)),
-            13 => Some(Register::Timer(Number::Four)),
-            14 => Some(Register::Timer(Number::Five)),
-            15 => Some(Register::Status),
-            _ => None,
+            0 => Ok(Register::Command1),
+            1 => Ok(Register::Command2),
+            2 => Ok(Register::Command3),
+            3 => Ok(Register::Mode),
+            4 => Ok(Register::Port1Control),
+            5 => Ok(Register::Mask),
+            6 => Ok(Register::InterruptAddress),
+            7 => Ok(Register::Buffer),
+            8 => Ok(Register::Pins(Port::One)),
+            9 => Ok(Register::Pins(Port::Two)),
+            10 => Ok(Register::Timer(Number::One)),
+            11 => Ok(Register::Timer(Number::Two)),
+            12 => Ok(Register::Timer(Number::Three)),
+            13 => Ok(Register::Timer(Number::Four)),
+            14 => Ok(Register::Timer(Number::Five)),
+            15 => Ok(Register::Status),
+            _ => Err(Refusal::NoSuchRegister),
         }
     }
 }

@@ -1,19 +1,14 @@
 // What the bits of the command and mode words say.
-ghost use Rattle.std.specs.Prelude.{◌≡◌, ◌<◌, ◌≤◌};
-ghost use Rattle.registers.specs.Words.{bit_of, family_of, same_family, prescale_of, divide_of, lawful1, lawful2, lawful3, lawful_mode};
+ghost use Rattle.std.specs.Prelude.{◌≡◌, ◌≤◌};
+ghost use Rattle.registers.specs.Words.{family_of, prescale_of, divide_of, lawful1, lawful2, lawful3, lawful_mode};
+
+use bits::bit;
 
 // The host's processor family: it decides how addresses and acknowledge pulses are read.
-#[derive(Clone, Copy)]
+#[derive(Clone, Copy, Debug, PartialEq, Eq)]
 pub enum Family {
     I8085,
     I8086,
-}
-
-pub fn bit(byte: u8, place: u32) -> bool
-    requires { place < 8 }
-    ensures { result ≡ bit_of place byte }
-{
-    (byte >> place) % 2 == 1
 }
 
 impl Family {
@@ -24,16 +19,6 @@ impl Family {
             Family::I8086
         } else {
             Family::I8085
-        }
-    }
-
-    pub fn is(self, other: Family) -> bool
-        ensures { result ≡ same_family self other }
-    {
-        match (self, other) {
-            (Family::I8085, Family::I8085) => true,
-            (Family::I8086, Family::I8086) => true,
-            _ => false,
         }
     }
 }

@@ -1,4 +1,3 @@
-mod Filling
 mod Reading
 pub mod Start
 mod Whole

@@ -1,11 +1,11 @@
 -- What a line says is decided by its first 81 bytes.
 use Rattle.std.proofs.Common.{◌≡◌, ℕ, zero, suc, ◌+◌, ◌-◌, ◌*◌, ◌<◌, ◌≤◌, Bool, true, false, cond, ◌&&◌, eqb, leb, List, [], ◌∷◌, length, take, drop, Some, None, Ok, codes, Option, sym, refl, ap, ◌∙◌, le_of_suc-le-suc, not-suc-le-zero, arith, lit≤, length-take, take_all}
-use Rattle.std.proofs.lemmas.List.{drop-take}
+use Rattle.std.proofs.lemmas.List.{drop-take, take-take}
 use Rattle.std.proofs.lemmas.Bool.Decides.{nat_tests}
 use Rattle.std.specs.Char.{is_ascii_digit}
 use Rattle.script.specs.Codes.{starts, code_of, first_limit, second_limit, operation_of}
 use Rattle.script.specs.Fields.{at, is_padding, read_on, field_of, and_then, bounded_of}
-use Rattle.script.specs.Lines.{step, fielded, operated, noted, parsed, StartDecides}
+use Rattle.script.specs.Lines.{step, fielded, operated, noted, parsed, kept_bytes, DecidedBy, StartDecides}
 use Rattle.script.specs.declared.codes.Code.{Code}
 use Rattle.script.specs.declared.codes.Code.TheVariants.{Rd, Wr, Ck, Pn, Ak, Ab, Rs, Lk}
 
@@ -79,3 +79,8 @@ module _ (line : List ℕ) where
 
 pub start_decides : StartDecides
 start_decides line = parsed_kept line
+
+-- a longer start has these bytes too
+pub more_decides : (n : ℕ) → kept_bytes ≤ n → DecidedBy n
+more_decides n h line =
+    sym (start_decides (take n line)) ∙ ap parsed (take-take 81 n line h) ∙ start_decides line

@@ -1,12 +1,7 @@
 -- A field of a line: its number, or the first column that cannot stand.
-use Rattle.std.specs.Prelude.{ℕ, zero, suc, ◌+◌, ◌-◌, ◌*◌, ◌<◌, ◌≤◌, Bool, true, false, cond, not, ◌&&◌, List, [], ◌∷◌, drop, Ok, Err, Result, ◌==◌, nat_le, nat_lt}
+use Rattle.std.specs.Prelude.{ℕ, zero, suc, ◌+◌, ◌-◌, ◌*◌, Bool, true, false, cond, not, ◌&&◌, List, [], ◌∷◌, drop, Ok, Err, Result, ◌==◌, nat_le, nat_lt}
 use Rattle.std.specs.Char.{is_ascii_digit}
-use Rattle.script.specs.declared.fields.Columns.{Columns}
 use Rattle.script.specs.declared.items.Fault.{Fault}
-
--- a field has at most ten of a line's sixteen columns, which count from 1
-abbrev pub Narrow : Columns → Type 0
-Narrow columns = (0 < columns.first) × (columns.last < columns.first + 10) × (columns.last ≤ 16)
 
 -- the refusal at a column
 abbrev pub at : {X : Type 0} → ℕ → Result X Fault

@@ -47,6 +47,10 @@ content (Err fault) = Err fault
 abbrev pub kept_bytes : ℕ
 kept_bytes = 81
 
--- what a line says is decided by these
+-- what a line says is decided by its first n bytes
+abbrev pub DecidedBy : ℕ → Type 0
+DecidedBy n = (line : List ℕ) → parsed (take n line) ≡ parsed line
+
+-- what a line says is decided by the bytes that can matter
 abbrev pub StartDecides : Type 0
-StartDecides = (line : List ℕ) → parsed (take kept_bytes line) ≡ parsed line
+StartDecides = DecidedBy kept_bytes

@@ -1,49 +1,48 @@
 // A field: right-justified decimal digits in its columns, blanks before them.
-ghost use Rattle.std.specs.Prelude.{◌≡◌, ◌≤◌, IfOk};
-ghost use Rattle.script.specs.Fields.{Narrow, field_of, bounded_of};
+ghost use Rattle.std.specs.Prelude.{◌≡◌, ◌+◌, ◌<◌, ◌≤◌, IfOk};
+ghost use Rattle.script.specs.Fields.{field_of, bounded_of};
 
 use crate::items::Fault;
 
-// The columns of a field, counted from 1.
+// The columns of a field, counted from 1: at most ten of a line's sixteen.
 #[derive(Clone, Copy)]
 pub(crate) struct Columns {
     pub first: u32,
     pub last: u32,
+    ghost some: { 0 < first },
+    ghost narrow: { last < first + 10 },
+    ghost within: { last ≤ 16 },
 }
 
-// The field's number, which is at most `limit`.
-pub(crate) fn bounded(line: &[u8], columns: Columns, limit: u64) -> Result<u64, Fault>
-    requires { Narrow columns }
-    ensures value { result ≡ bounded_of columns.first columns.last limit line.now }
-    ensures within { IfOk result (λ number. number ≤ limit) }
-{
-    let number = field(line, columns)?;
-    if number <= limit {
+impl Columns {
+    // The field's number, which is at most `limit`.
+    pub(crate) fn bounded(self, line: &[u8], limit: u64) -> Result<u64, Fault>
+        ensures value { result ≡ bounded_of self.first self.last limit line.now }
+        ensures within { IfOk result (λ number. number ≤ limit) }
+    {
+        let number = self.field(line)?;
+        if number <= limit {
+            Ok(number)
+        } else {
+            Err(Fault { column: self.first })
+        }
+    }
+
+    fn field(self, line: &[u8]) -> Result<u64, Fault>
+        ensures { result ≡ field_of self.first self.last line.now }
+    {
+        let mut number: u64 = 0;
+        let mut seen = false;
+        let mut bytes = line.get(self.first as usize - 1..).unwrap_or(&[]).iter();
+        for column in self.first..self.last + 1 {
+            let byte = *bytes.next().ok_or(Fault { column })?;
+            if byte.is_ascii_digit() {
+                seen = true;
+                number = number * 10 + u64::from(byte - b'0');
+            } else if byte != b' ' || seen || column == self.last {
+                return Err(Fault { column });
+            }
+        }
         Ok(number)
-    } else {
-        Err(Fault {
-            column: columns.first,
-        })
     }
-}
-
-fn field(line: &[u8], columns: Columns) -> Result<u64, Fault>
-    requires { Narrow columns }
-    ensures { result ≡ field_of columns.first columns.last line.now }
-{
-    let mut number: u64 = 0;
-    let mut seen = false;
-    for column in columns.first..columns.last + 1 {
-        if column as usize > line.len() {
-            return Err(Fault { column });
-        }
-        let byte = line[column as usize - 1];
-        if byte.is_ascii_digit() {
-            seen = true;
-            number = number * 10 + u64::from(byte - b'0');
-        } else if byte != b' ' || seen || column == columns.last {
-            return Err(Fault { column });
-        }
-    }
-    Ok(number)
 }

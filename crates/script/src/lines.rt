@@ -3,7 +3,7 @@ ghost use Rattle.std.specs.Prelude.{◌≡◌};
 ghost use Rattle.script.specs.Lines.{noted, operated, parsed, content};
 
 use crate::codes::Code;
-use crate::fields::{Columns, bounded};
+use crate::fields::Columns;
 use crate::items::{Fault, Item, Operation};
 
 const FIRST_FIELD: Columns = Columns { first: 3, last: 12 };
@@ -40,8 +40,8 @@ fn operation(line: &[u8]) -> Result<Operation, Fault>
     ensures { result ≡ operated line.now }
 {
     let code = Code::of(line).ok_or(Fault { column: 1 })?;
-    let first = bounded(line, FIRST_FIELD, code.first_limit())?;
-    let second = bounded(line, SECOND_FIELD, code.second_limit())?;
+    let first = FIRST_FIELD.bounded(line, code.first_limit())?;
+    let second = SECOND_FIELD.bounded(line, code.second_limit())?;
     if line.len() > SECOND_FIELD.last as usize {
         return Err(Fault {
             column: SECOND_FIELD.last + 1,

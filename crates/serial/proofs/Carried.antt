@@ -3,7 +3,7 @@ use Rattle.std.proofs.Common.{◌≡◌, ℕ, zero, suc, ◌+◌, ◌/◌, ◌<�
 use native.Mathlib.Nat.{add-mul-div_right, div-eq_of_lt}
 use Rattle.serial.specs.Forms.{SoundForm, has_parity}
 use Rattle.serial.specs.Frames.{frame, frame_ticks, stop_place}
-use Rattle.serial.specs.Laws.{Carries}
+use Rattle.serial.specs.Laws.{Carries, Receives, Sends}
 use Rattle.serial.specs.Receiving.{outcome, worth}
 use Rattle.serial.specs.Samples.{gathered, reception, sample_tick}
 use Rattle.serial.specs.declared.form.Form.{Form}
@@ -33,6 +33,7 @@ in_frame : (f : Form) → SoundForm f → (k : ℕ) → k ≤ stop_place f → s
 in_frame f sound k h = omega (arith, mul-le-mul_right f.ticks h, long_stops f.stops f.ticks)
 
 pub carries : (f : Form) (c : ℕ) → SoundForm f → Carries f c
+unfolding Carries Sends Receives
 carries f c sound g cts b w same =
     let heard : (k : ℕ) → k ≤ stop_place f → w (sample_tick f k) ≡ get_or (frame f c) k true =
     λ k h. same (sample_tick f k) (in_frame f sound k h) ∙ (sends f c sound g cts b).0 (sample_tick f k) (in_frame f sound k h) ∙ ap (λ n. get_or (frame f c) n true) (middle f sound k) in

@@ -5,7 +5,7 @@ use Rattle.serial.specs.Lines.{after, tells}
 use Rattle.serial.specs.Receiving.{SoundReceiver, lasting, lessened, passed, quiet_ticks, told}
 use Rattle.serial.specs.declared.receiver.Receiving.{Receiving}
 use Rattle.serial.specs.declared.receiver.Receiver.{Receiver}
-use Rattle.serial.specs.declared.receiver.Receiver.TheVariants.{Idle, Start, Data, Parity, Stop}
+use Rattle.serial.specs.declared.stage.Stage.TheVariants.{Idle, Start, Data, Parity, Stop}
 
 -- A state that counts down, and tells nothing meanwhile.
 pub record Countdown (at : ℕ → Receiver) : Type 0 where

@@ -5,8 +5,8 @@ use Rattle.timing.specs.Run.{times}
 use Rattle.serial.specs.Sending.{SoundPhase, ending, idle, lasting, lessened, level, passed, past_bit, quiet_ticks, ticked}
 use Rattle.serial.specs.declared.form.Form.{Form}
 use Rattle.serial.specs.declared.transmitter.Sending.{Sending}
-use Rattle.serial.specs.declared.transmitter.Phase.{Phase}
-use Rattle.serial.specs.declared.transmitter.Phase.TheVariants.{Idle, Start, Data, Parity, Stop}
+use Rattle.serial.specs.Sending.{Phase}
+use Rattle.serial.specs.declared.stage.Stage.TheVariants.{Idle, Start, Data, Parity, Stop}
 use Rattle.serial.specs.declared.transmitter.Transmitter.{Transmitter}
 use Rattle.serial.proofs.Counting.{times_still, times_count}
 

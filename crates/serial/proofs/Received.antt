@@ -10,7 +10,7 @@ use Rattle.serial.specs.Samples.{gathered, sample_tick}
 use Rattle.serial.specs.declared.form.Form.{Form}
 use Rattle.serial.specs.declared.receiver.Receiving.{Receiving}
 use Rattle.serial.specs.declared.receiver.Receiver.{Receiver}
-use Rattle.serial.specs.declared.receiver.Receiver.TheVariants.{Idle, Start, Data, Parity, Stop}
+use Rattle.serial.specs.declared.stage.Stage.TheVariants.{Idle, Start, Data, Parity, Stop}
 use Rattle.serial.proofs.Heard.{Reached, at_first, data_counts, finished, parity_counts, sampled, start_counts, stop_counts}
 
 pub next_sample : (f : Form) (k : ℕ) → sample_tick f (suc k) ≡ f.ticks + sample_tick f k
@@ -78,5 +78,6 @@ module _ (f : Form) (sound : SoundForm f) (w : ℕ → Bool) where
 
 -- the receiver's samples make its reception
 pub receives : (f : Form) (w : ℕ → Bool) → SoundForm f → Receives f w
+unfolding Receives
 receives f w sound =
     (λ high. let d = rw high at (started f sound w) in (d.state, d.silent), λ low. told f sound w low)

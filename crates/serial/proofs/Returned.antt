@@ -1,5 +1,5 @@
 -- The levels of a frame give its character back.
-use Rattle.std.proofs.Common.{◌≡◌, ℕ, zero, suc, ◌+◌, ◌*◌, ◌/◌, ◌%◌, ◌^◌, ◌<◌, Bool, true, false, cond, not, ◌&&◌, ◌||◌, eqb, List, [], ◌∷◌, ◌++◌, get_or, sym, refl, ap, ◌∙◌, ap₂, add-zero, mod-lt, add_comm, suc-add, one-mul, zero-add, zero-mul, add-one, one-add, arith, lit<}
+use Rattle.std.proofs.Common.{◌≡◌, ℕ, zero, suc, ◌+◌, ◌*◌, ◌/◌, ◌%◌, ◌^◌, ◌<◌, Bool, true, false, cond, not, ◌&&◌, ◌||◌, eqb, List, [], ◌∷◌, ◌++◌, get_or, Some, None, Option, sym, refl, ap, ◌∙◌, ap₂, add-zero, mod-lt, add_comm, suc-add, one-mul, zero-add, zero-mul, add-one, one-add, arith, lit<}
 use native.Mathlib.Nat.{mod-mod, mod-one}
 use lib.Count.{ones}
 use Rattle.std.proofs.lemmas.Nat.{mod-pow-add}
@@ -11,7 +11,7 @@ use Rattle.serial.specs.Receiving.{differ, outcome, worth}
 use Rattle.serial.specs.Samples.{gathered}
 use Rattle.serial.specs.declared.form.Form.{Form}
 use Rattle.serial.specs.declared.form.Parity.{Parity}
-use Rattle.serial.specs.declared.form.Parity.TheVariants.{Off, Even, Odd}
+use Rattle.serial.specs.declared.form.Parity.TheVariants.{Even, Odd}
 use Rattle.serial.specs.declared.form.Stops.{Stops}
 use Rattle.serial.specs.declared.form.Stops.TheVariants.{One, OneAndHalf, Two}
 use Rattle.serial.specs.declared.receiver.Reception.TheVariants.{Character}
@@ -48,10 +48,10 @@ low_bits m (suc n) v e =
 
 -- ---- the parity and the stop
 
-parity_level : (q : Parity) (odd : Bool) (ys : List Bool) → (has_parity q && get_or (cond (has_parity q) (sense q odd ∷ []) [] ++ ys) 0 true) ≡ sense q odd
-parity_level Off odd ys = refl
-parity_level Even odd ys = refl
-parity_level Odd odd ys = refl
+parity_level : (q : Option Parity) (odd : Bool) (ys : List Bool) → (has_parity q && get_or (cond (has_parity q) (sense q odd ∷ []) [] ++ ys) 0 true) ≡ sense q odd
+parity_level None odd ys = refl
+parity_level (Some Even) odd ys = refl
+parity_level (Some Odd) odd ys = refl
 
 stop_level : (h x : Bool) (stops : Stops) → get_or (cond h (x ∷ []) [] ++ stop_levels stops) (cond h 1 0) true ≡ true
 stop_level true x One = refl

@@ -11,8 +11,8 @@ use Rattle.serial.specs.declared.form.Form.{Form}
 use Rattle.serial.specs.declared.form.Stops.{Stops}
 use Rattle.serial.specs.declared.form.Stops.TheVariants.{One, OneAndHalf, Two}
 use Rattle.serial.specs.declared.transmitter.Sending.{Sending}
-use Rattle.serial.specs.declared.transmitter.Phase.{Phase}
-use Rattle.serial.specs.declared.transmitter.Phase.TheVariants.{Start, Data, Parity, Stop}
+use Rattle.serial.specs.Sending.{Phase}
+use Rattle.serial.specs.declared.stage.Stage.TheVariants.{Start, Data, Parity, Stop}
 use Rattle.serial.specs.declared.transmitter.Transmitter.{Transmitter}
 use Rattle.timing.proofs.Repeats.{times_add}
 use Rattle.serial.proofs.Counting.{times_count}
@@ -122,6 +122,7 @@ module _ (g : Form) (cts : Bool) (b : Option ℕ) where
 
 -- a loaded character is sent as its frame
 pub sends : (f : Form) (c : ℕ) → SoundForm f → Sends f c
+unfolding Sends
 sends f c sound g cts b =
     let d = all_shown g cts b (record { form = f; character = masked f c; left = f.ticks }) sound in
     (rw same_parity at d.shown, d.ends)

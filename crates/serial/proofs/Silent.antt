@@ -8,9 +8,8 @@ use Rattle.serial.specs.Receiving.{passed as hears, quiet_ticks as quiet_hearing
 use Rattle.serial.specs.Sending.{ending, level, passed as sends, quiet_ticks as quiet_sending, ticked}
 use Rattle.serial.specs.declared.form.Form.{Form}
 use Rattle.serial.specs.declared.receiver.Receiver.{Receiver}
-use Rattle.serial.specs.declared.receiver.Receiver.TheVariants as receiver
-use Rattle.serial.specs.declared.transmitter.Phase.{Phase}
-use Rattle.serial.specs.declared.transmitter.Phase.TheVariants as phase
+use Rattle.serial.specs.declared.stage.Stage.TheVariants as stage
+use Rattle.serial.specs.Sending.{Phase}
 use Rattle.serial.specs.declared.transmitter.Transmitter.{Transmitter}
 use Rattle.serial.proofs.Heard.{quiet_told}
 use Rattle.serial.proofs.Quiet.{holding, quiet_ending}
@@ -19,11 +18,11 @@ use Rattle.serial.proofs.Quiet.{holding, quiet_ending}
 
 -- a quiet tick takes at most one off the horizon
 still_sending : (p : Phase) (k : ℕ) → suc k ≤ quiet_sending p → k ≤ quiet_sending (sends p)
-still_sending phase.Idle k h = omega arith
-still_sending (phase.Start s) k h = rw (lt-ltb 1 s.left (omega arith)) (omega arith)
-still_sending (phase.Data s place) k h = rw (lt-ltb 1 s.left (omega arith)) (omega arith)
-still_sending (phase.Parity s) k h = rw (lt-ltb 1 s.left (omega arith)) (omega arith)
-still_sending (phase.Stop s) k h = rw (lt-ltb 1 s.left (omega arith)) (omega arith)
+still_sending stage.Idle k h = omega arith
+still_sending (stage.Start s) k h = rw (lt-ltb 1 s.left (omega arith)) (omega arith)
+still_sending (stage.Data s place) k h = rw (lt-ltb 1 s.left (omega arith)) (omega arith)
+still_sending (stage.Parity s) k h = rw (lt-ltb 1 s.left (omega arith)) (omega arith)
+still_sending (stage.Stop s) k h = rw (lt-ltb 1 s.left (omega arith)) (omega arith)
 
 -- no tick within the horizon is a frame's last
 pub silent_ending : (k : ℕ) (p : Phase) → k < quiet_sending p → ending (times k sends p) ≡ false
@@ -32,11 +31,11 @@ silent_ending (suc k) p h = silent_ending k (sends p) (still_sending p (suc k) (
 
 -- a quiet tick leaves TxD as it is
 same_level : (p : Phase) → 1 ≤ quiet_sending p → level (sends p) ≡ level p
-same_level phase.Idle h = refl
-same_level (phase.Start s) h = rw (lt-ltb 1 s.left (omega arith))
-same_level (phase.Data s place) h = rw (lt-ltb 1 s.left (omega arith))
-same_level (phase.Parity s) h = rw (lt-ltb 1 s.left (omega arith))
-same_level (phase.Stop s) h = rw (lt-ltb 1 s.left (omega arith))
+same_level stage.Idle h = refl
+same_level (stage.Start s) h = rw (lt-ltb 1 s.left (omega arith))
+same_level (stage.Data s place) h = rw (lt-ltb 1 s.left (omega arith))
+same_level (stage.Parity s) h = rw (lt-ltb 1 s.left (omega arith))
+same_level (stage.Stop s) h = rw (lt-ltb 1 s.left (omega arith))
 
 pub silent_level : (k : ℕ) (p : Phase) → k ≤ quiet_sending p → level (times k sends p) ≡ level p
 silent_level zero p h = refl
@@ -54,11 +53,11 @@ silent_ticked form cts (suc k) t h =
 
 -- a quiet tick takes at most one off the horizon
 still_hearing : (rxd : Bool) (r : Receiver) (k : ℕ) → suc k ≤ quiet_hearing r → k ≤ quiet_hearing (hears rxd r)
-still_hearing rxd receiver.Idle k h = omega arith
-still_hearing rxd (receiver.Start x) k h = rw (lt-ltb 1 x.left (omega arith)) (omega arith)
-still_hearing rxd (receiver.Data x place) k h = rw (lt-ltb 1 x.left (omega arith)) (omega arith)
-still_hearing rxd (receiver.Parity x) k h = rw (lt-ltb 1 x.left (omega arith)) (omega arith)
-still_hearing rxd (receiver.Stop x) k h = rw (lt-ltb 1 x.left (omega arith)) (omega arith)
+still_hearing rxd stage.Idle k h = omega arith
+still_hearing rxd (stage.Start x) k h = rw (lt-ltb 1 x.left (omega arith)) (omega arith)
+still_hearing rxd (stage.Data x place) k h = rw (lt-ltb 1 x.left (omega arith)) (omega arith)
+still_hearing rxd (stage.Parity x) k h = rw (lt-ltb 1 x.left (omega arith)) (omega arith)
+still_hearing rxd (stage.Stop x) k h = rw (lt-ltb 1 x.left (omega arith)) (omega arith)
 
 -- no tick within the horizon tells anything
 pub silent_told : (rxd : Bool) (k : ℕ) (r : Receiver) → k < quiet_hearing r → told rxd (times k (hears rxd) r) ≡ None

@@ -7,7 +7,7 @@ use Rattle.serial.specs.declared.receiver.Event.{Event}
 use Rattle.serial.specs.declared.receiver.Event.TheVariants.{Fall, Tick}
 use Rattle.serial.specs.declared.receiver.Receiving.{Receiving}
 use Rattle.serial.specs.declared.receiver.Receiver.{Receiver}
-use Rattle.serial.specs.declared.receiver.Receiver.TheVariants.{Idle, Start, Data, Parity, Stop}
+use Rattle.serial.specs.declared.stage.Stage.TheVariants.{Idle, Start, Data, Parity, Stop}
 use Rattle.serial.proofs.Gathered.{one_more}
 
 pub idle_sound : SoundReceiver Idle

@@ -7,8 +7,8 @@ use Rattle.serial.specs.declared.form.Form.{Form}
 use Rattle.serial.specs.declared.form.Stops.{Stops}
 use Rattle.serial.specs.declared.form.Stops.TheVariants.{One, OneAndHalf, Two}
 use Rattle.serial.specs.declared.transmitter.Sending.{Sending}
-use Rattle.serial.specs.declared.transmitter.Phase.{Phase}
-use Rattle.serial.specs.declared.transmitter.Phase.TheVariants.{Idle, Start, Data, Parity, Stop}
+use Rattle.serial.specs.Sending.{Phase}
+use Rattle.serial.specs.declared.stage.Stage.TheVariants.{Idle, Start, Data, Parity, Stop}
 use Rattle.serial.specs.declared.transmitter.Transmitter.{Transmitter}
 use Rattle.serial.proofs.Sent.{long_stops}
 

@@ -1,15 +1,15 @@
 -- The form of a character, and what follows from it alone.
-use Rattle.std.specs.Prelude.{ℕ, ◌+◌, ◌-◌, ◌*◌, ◌/◌, ◌%◌, ◌^◌, ◌≤◌, Bool, true, false, cond, not, ◌==◌, count_ones}
+use Rattle.std.specs.Prelude.{ℕ, ◌+◌, ◌-◌, ◌*◌, ◌/◌, ◌%◌, ◌^◌, ◌≤◌, Bool, false, cond, not, Some, None, Option, is_some, ◌==◌, count_ones}
 use Rattle.serial.specs.Rates.{ticks_of}
 use Rattle.serial.specs.declared.form.Form.{Form}
 use Rattle.serial.specs.declared.form.Parity.{Parity}
-use Rattle.serial.specs.declared.form.Parity.TheVariants.{Off, Even, Odd}
+use Rattle.serial.specs.declared.form.Parity.TheVariants.{Even, Odd}
 use Rattle.serial.specs.declared.form.Stops.{Stops}
 use Rattle.serial.specs.declared.form.Stops.TheVariants.{One, OneAndHalf, Two}
 
 -- Bit 7 of command 2 turns parity on, and bit 6 is 1 for even.
-abbrev pub parity_of : ℕ → Parity
-parity_of command2 = cond (command2 / 128 % 2 == 1) (cond (command2 / 64 % 2 == 1) Even Odd) Off
+abbrev pub parity_of : ℕ → Option Parity
+parity_of command2 = cond (command2 / 128 % 2 == 1) (Some (cond (command2 / 64 % 2 == 1) Even Odd)) None
 
 -- Bits 5 and 4 of command 1 give 1, 1.5 or 2 stop bits.
 abbrev pub stops_of : ℕ → Stops
@@ -25,27 +25,25 @@ SoundForm f = (5 ≤ f.length) × (f.length ≤ 8) × (32 ≤ f.ticks) × (f.tic
 
 -- The form of the fewest ticks.
 abbrev pub shortest : Form
-shortest = record { length = 5; parity = Off; stops = One; ticks = 32 }
+shortest = record { length = 5; parity = None; stops = One; ticks = 32 }
 
 -- A character is shortened to its length.
 abbrev pub masked : Form → ℕ → ℕ
 masked f c = c % 2 ^ f.length
 
 -- Whether the parity bit is high, where the ones of the data are odd in number or even: it makes them even or odd with its own.
-abbrev pub sense : Parity → Bool → Bool
-sense Off odd = false
-sense Even odd = odd
-sense Odd odd = not odd
+abbrev pub sense : Option Parity → Bool → Bool
+sense None odd = false
+sense (Some Even) odd = odd
+sense (Some Odd) odd = not odd
 
 -- The parity bit counts the ones of the shortened character; without parity it counts as low.
 abbrev pub parity_bit : Form → ℕ → Bool
 parity_bit f c = sense f.parity (count_ones (masked f c) % 2 == 1)
 
 -- Whether a frame has a parity bit.
-abbrev pub has_parity : Parity → Bool
-has_parity Off = false
-has_parity Even = true
-has_parity Odd = true
+abbrev pub has_parity : Option Parity → Bool
+has_parity parity = is_some parity
 
 -- The stops last 1, 1.5 or 2 bits.
 abbrev pub stops_ticks : Stops → ℕ → ℕ

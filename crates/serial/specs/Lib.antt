@@ -1,4 +1,5 @@
 pub mod Far
+pub mod FormViews
 pub mod Forms
 pub mod Frames
 pub mod Laws
@@ -7,3 +8,5 @@ pub mod Rates
 pub mod Receiving
 pub mod Samples
 pub mod Sending
+pub mod Stages
+pub mod TransmitterViews

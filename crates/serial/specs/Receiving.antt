@@ -1,11 +1,11 @@
 -- What the receiver does.
 use Rattle.std.specs.Prelude.{ℕ, ◌+◌, ◌-◌, ◌/◌, ◌^◌, ◌<◌, ◌≤◌, Bool, true, false, cond, not, ◌||◌, Some, None, Option, ◌==◌, nat_lt}
 use Rattle.serial.specs.Forms.{SoundForm, parity_bit, has_parity, shortest}
-use Rattle.serial.specs.Far.{far}
+use Rattle.serial.specs.Stages.{lessened_in, quiet_in}
 use Rattle.serial.specs.declared.form.Form.{Form}
 use Rattle.serial.specs.declared.receiver.Receiving.{Receiving}
 use Rattle.serial.specs.declared.receiver.Receiver.{Receiver}
-use Rattle.serial.specs.declared.receiver.Receiver.TheVariants.{Idle, Start, Data, Parity, Stop}
+use Rattle.serial.specs.declared.stage.Stage.TheVariants.{Idle, Start, Data, Parity, Stop}
 use Rattle.serial.specs.declared.receiver.Event.{Event}
 use Rattle.serial.specs.declared.receiver.Event.TheVariants.{Fall, Tick}
 use Rattle.serial.specs.declared.receiver.Reception.{Reception}
@@ -133,16 +133,8 @@ received (Tick rxd) r = told rxd r
 
 -- How many ticks only count: all before the next sample, and any number of an idle receiver's.
 abbrev pub quiet_ticks : Receiver → ℕ
-quiet_ticks Idle = far
-quiet_ticks (Start r) = r.left - 1
-quiet_ticks (Data r place) = r.left - 1
-quiet_ticks (Parity r) = r.left - 1
-quiet_ticks (Stop r) = r.left - 1
+quiet_ticks p = quiet_in (λ r. r.left) p
 
 -- The receiver with n ticks fewer to its next sample.
 abbrev pub lessened : ℕ → Receiver → Receiver
-lessened n Idle = Idle
-lessened n (Start r) = Start (lasting (r.left - n) r)
-lessened n (Data r place) = Data (lasting (r.left - n) r) place
-lessened n (Parity r) = Parity (lasting (r.left - n) r)
-lessened n (Stop r) = Stop (lasting (r.left - n) r)
+lessened n p = lessened_in (λ r. r.left) lasting n p

@@ -2,12 +2,16 @@
 use Rattle.std.specs.Prelude.{ℕ, ◌+◌, ◌-◌, ◌<◌, ◌≤◌, Bool, true, false, cond, not, Some, None, Option, nat_lt}
 use Rattle.serial.specs.Forms.{SoundForm, masked, parity_bit, has_parity, shortest, stop_ticks}
 use Rattle.serial.specs.Frames.{bit}
-use Rattle.serial.specs.Far.{far}
+use Rattle.serial.specs.Stages.{lessened_in, quiet_in}
 use Rattle.serial.specs.declared.form.Form.{Form}
 use Rattle.serial.specs.declared.transmitter.Sending.{Sending}
-use Rattle.serial.specs.declared.transmitter.Phase.{Phase}
-use Rattle.serial.specs.declared.transmitter.Phase.TheVariants.{Idle, Start, Data, Parity, Stop}
+use Rattle.serial.specs.declared.stage.Stage.{Stage}
+use Rattle.serial.specs.declared.stage.Stage.TheVariants.{Idle, Start, Data, Parity, Stop}
 use Rattle.serial.specs.declared.transmitter.Transmitter.{Transmitter}
+
+-- The stage of the frame on the line.
+abbrev pub Phase : Type 0
+Phase = Stage Sending
 
 -- A phase lasts at least one tick and at most two bits.
 abbrev pub SoundSending : Sending → Type 0
@@ -129,16 +133,8 @@ released form t = cond (idle t.phase) (offered form false t.buffer) t
 
 -- How many ticks only count: all of a phase's but its last, and any number of an idle transmitter's.
 abbrev pub quiet_ticks : Phase → ℕ
-quiet_ticks Idle = far
-quiet_ticks (Start s) = s.left - 1
-quiet_ticks (Data s place) = s.left - 1
-quiet_ticks (Parity s) = s.left - 1
-quiet_ticks (Stop s) = s.left - 1
+quiet_ticks p = quiet_in (λ s. s.left) p
 
 -- The phase with n ticks fewer left.
 abbrev pub lessened : ℕ → Phase → Phase
-lessened n Idle = Idle
-lessened n (Start s) = Start (lasting (s.left - n) s)
-lessened n (Data s place) = Data (lasting (s.left - n) s) place
-lessened n (Parity s) = Parity (lasting (s.left - n) s)
-lessened n (Stop s) = Stop (lasting (s.left - n) s)
+lessened n p = lessened_in (λ s. s.left) lasting n p

@@ -1,12 +1,12 @@
 //! The form of a character on the line, as two command bytes give it.
 ghost use Rattle.std.specs.Prelude.{◌≡◌};
-ghost use Rattle.serial.specs.Forms.{form_of, parity_of, stops_of, SoundForm, masked, parity_bit, stop_ticks};
+ghost use Rattle.serial.specs.Forms.{form_of, parity_of, stops_of, SoundForm, has_parity, masked, parity_bit, stop_ticks};
 
 use crate::rate::bit_ticks;
+use std::marker::Model;
 
 #[derive(Clone, Copy)]
 pub enum Parity {
-    Off,
     Even,
     Odd,
 }
@@ -21,10 +21,24 @@ pub enum Stops {
 /// How a character is sent: `length` data bits, each bit for `ticks` rate ticks.
 #[derive(Clone, Copy)]
 pub struct Form {
-    pub length: u8,
-    pub parity: Parity,
-    pub stops: Stops,
-    pub ticks: u32,
+    length: u8,
+    parity: Option<Parity>,
+    stops: Stops,
+    ticks: u32,
+}
+
+impl Model for Form {
+    ghost use Rattle.serial.specs.FormViews.{FormView};
+
+    ghost Value = { FormView };
+
+    ghost use Rattle.serial.specs.Forms.{SoundForm};
+
+    ghost view = { λ f. record { length = f.length; parity = f.parity; stops = f.stops; ticks = f.ticks } };
+
+    ghost invariant = { λ f. SoundForm (record { length = f.length; parity = f.parity; stops = f.stops; ticks = f.ticks }) };
+
+    ghost inverse = { λ v. record { length = v.length; parity = v.parity; stops = v.stops; ticks = v.ticks } };
 }
 
 impl Form {
@@ -40,9 +54,28 @@ impl Form {
         }
     }
 
+    pub(crate) fn length(self) -> u8
+        ensures { result ≡ self.length }
+    {
+        self.length
+    }
+
+    pub(crate) fn has_parity(self) -> bool
+        ensures { result ≡ has_parity self.parity }
+    {
+        self.parity.is_some()
+    }
+
+    /// How many rate ticks a bit lasts.
+    pub(crate) fn ticks(self) -> u32
+        ensures value { result ≡ self.ticks }
+        ensures sound { SoundForm self }
+    {
+        self.ticks
+    }
+
     /// The character without the high bits that its length leaves out.
     pub(crate) fn masked(self, character: u8) -> u8
-        requires { SoundForm self }
         ensures { result ≡ masked self character }
     {
         (u16::from(character) % (1 << self.length)) as u8
@@ -50,20 +83,18 @@ impl Form {
 
     /// The level of the parity bit; low where the form has none.
     pub fn parity_bit(self, character: u8) -> bool
-        requires { SoundForm self }
         ensures { result ≡ parity_bit self character }
     {
         let odd = self.masked(character).count_ones() % 2 == 1;
         match self.parity {
-            Parity::Off => false,
-            Parity::Even => odd,
-            Parity::Odd => !odd,
+            None => false,
+            Some(Parity::Even) => odd,
+            Some(Parity::Odd) => !odd,
         }
     }
 
     /// How long the line stays high after the last bit.
     pub(crate) fn stop_ticks(self) -> u32
-        requires { SoundForm self }
         ensures { result ≡ stop_ticks self }
     {
         match self.stops {
@@ -75,13 +106,13 @@ impl Form {
 }
 
 impl Parity {
-    fn of(command2: u8) -> Parity
+    fn of(command2: u8) -> Option<Parity>
         ensures { result ≡ parity_of command2 }
     {
         match command2 / 64 {
-            0 | 1 => Parity::Off,
-            2 => Parity::Odd,
-            _ => Parity::Even,
+            0 | 1 => None,
+            2 => Some(Parity::Odd),
+            _ => Some(Parity::Even),
         }
     }
 }

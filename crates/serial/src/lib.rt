@@ -5,4 +5,5 @@
 pub mod form;
 pub mod rate;
 pub mod receiver;
+pub mod stage;
 pub mod transmitter;

@@ -1,31 +1,42 @@
 //! The receiver: what it has gathered of a frame, and the ticks to its next sample.
-ghost use Rattle.std.specs.Prelude.{◌≡◌, ℕ, ◌+◌, ◌-◌, ◌<◌, ◌≤◌, Bool, None as Nothing};
+ghost use Rattle.std.specs.Prelude.{◌≡◌, ℕ, ◌+◌, ◌-◌, ◌<◌, ◌≤◌, Bool, None as Nothing, refl};
 ghost use Rattle.serial.specs.Forms.{SoundForm};
 ghost use Rattle.serial.specs.Laws.{Carries, Receives, Returns};
 ghost use Rattle.serial.specs.Lines.{after as after_ticks, tells};
-ghost use Rattle.serial.specs.Receiving.{SoundReceiving, SoundReceiver, SoundEvent, begun, lasting, with_bit, with_parity, past_bit, past_data, past_start, heard, received, outcome, quiet_ticks, lessened, worth};
+ghost use Rattle.serial.specs.Receiving.{SoundReceiving, SoundReceiver, begun, lasting, with_bit, with_parity, past_bit, past_data, past_start, heard, received, outcome, quiet_ticks, worth};
 
-use crate::form::{Form, Parity};
-use crate::rate::FAR;
+use crate::form::Form;
+use crate::stage::{Lasting, Stage};
+use std::marker::Model;
 
 /// A frame being received: its form, the data bits gathered so far, the parity bit once sampled, and the ticks to the next sample.
 #[derive(Clone, Copy)]
 pub struct Receiving {
-    pub form: Form,
-    pub character: u8,
-    pub parity: bool,
-    pub left: u32,
+    form: Form,
+    character: u8,
+    parity: bool,
+    left: u32,
 }
 
-/// What the next sample will be.
+/// The stage tells what the next sample will be.
 #[derive(Clone, Copy)]
-pub enum Receiver {
-    Idle,
-    Start(Receiving),
-    /// The data bit at this place, the lowest at 0.
-    Data(Receiving, u8),
-    Parity(Receiving),
-    Stop(Receiving),
+pub struct Receiver {
+    state: Stage<Receiving>,
+}
+
+impl Model for Receiver {
+    ghost use Rattle.serial.specs.declared.stage.Stage.{Stage};
+    ghost use Rattle.serial.specs.declared.receiver.Receiving.{Receiving};
+
+    ghost Value = { Stage Receiving };
+
+    ghost use Rattle.serial.specs.Receiving.{SoundReceiver};
+
+    ghost view = { λ r. r.state };
+
+    ghost invariant = { λ r. SoundReceiver r.state };
+
+    ghost inverse = { λ s. record { state = s } };
 }
 
 #[derive(Clone, Copy)]
@@ -46,126 +57,104 @@ pub enum Reception {
     },
 }
 
+impl Lasting for Receiving {
+    ghost ticks_left = { λ r. r.left };
+
+    ghost with_left = { lasting };
+
+    ghost set = { λ n r. refl };
+
+    fn left(self) -> u32 {
+        self.left
+    }
+
+    fn lasting(self, left: u32) -> Receiving {
+        Receiving { left, ..self }
+    }
+}
+
 impl Receiver {
     pub fn new() -> Receiver
-        ensures { result ≡ Receiver.Idle }
+        ensures { result ≡ Stage.Idle }
     {
-        Self::Idle
+        Receiver { state: Stage::Idle }
     }
 
     /// Takes an edge or a tick, and tells what was received with it.
+    #[tactic(auto, using(crate::proofs::Carried::carries, crate::proofs::Received::receives, crate::proofs::Returned::returned))]
     pub fn on(&mut self, event: Event) -> Option<Reception>
-        requires event { SoundEvent event }
-        requires sound { SoundReceiver self.old }
         ensures value { result ≡ received event self.old }
         ensures after { self.new ≡ heard event self.old }
-        ensures kept { SoundReceiver self.new }
         ensures receives { (f : Form) (w : ℕ → Bool) → SoundForm f → Receives f w }
         ensures returns { (f : Form) (c : ℕ) → Returns f c }
         ensures carries { (f : Form) (c : ℕ) → SoundForm f → Carries f c }
     {
-        self.hear(event)
+        let counts = self.state.horizon() > 0;
+        match (self.state, event) {
+            (Stage::Idle, Event::Fall(form)) => self.state = Stage::Start(Receiving::begun(form)),
+            (Stage::Idle, Event::Tick(_)) | (_, Event::Fall(_)) => {}
+            (state, Event::Tick(_)) if counts => self.state = state.lessened(1),
+            (Stage::Start(receiving), Event::Tick(rxd)) => self.state = receiving.past_start(rxd),
+            (Stage::Data(receiving, place), Event::Tick(rxd)) => {
+                self.state = receiving.with_bit(place, rxd).past_bit(place);
+            }
+            (Stage::Parity(receiving), Event::Tick(rxd)) => {
+                self.state = Stage::Stop(receiving.with_parity(rxd));
+            }
+            (Stage::Stop(receiving), Event::Tick(rxd)) => {
+                self.state = Stage::Idle;
+                return Some(receiving.outcome(rxd));
+            }
+        }
+        None
     }
 
     /// The receiver is turned off: what it has gathered is lost.
     pub fn disable(&mut self)
-        ensures { self.new ≡ Receiver.Idle }
+        ensures { self.new ≡ Stage.Idle }
     {
         *self = Receiver::new();
     }
 
     /// Lets as many ticks pass at once, in which no sample falls.
     pub fn skip(&mut self, ticks: u64)
-        requires sound { SoundReceiver self.old }
-        requires quiet { ticks ≤ quiet_ticks self.old }
+        requires { ticks ≤ quiet_ticks self.old }
         ensures after { (w : ℕ → Bool) → self.new ≡ after_ticks w ticks self.old }
         ensures silent { (w : ℕ → Bool) (k : ℕ) → k ≤ ticks → tells w k self.old ≡ Nothing }
-        ensures kept { SoundReceiver self.new }
     {
-        *self = self.lessened(ticks as u32);
+        self.state = self.state.lessened(ticks as u32);
     }
 
     /// How many ticks pass before the one that samples.
     pub fn horizon(&self) -> u64
-        requires { SoundReceiver self.now }
         ensures { result ≡ quiet_ticks self.now }
     {
-        match *self {
-            Receiver::Idle => FAR,
-            Receiver::Start(receiving)
-            | Receiver::Data(receiving, _)
-            | Receiver::Parity(receiving)
-            | Receiver::Stop(receiving) => u64::from(receiving.left - 1),
-        }
-    }
-
-    // The step itself; the laws of whole frames stand on the public call.
-    fn hear(&mut self, event: Event) -> Option<Reception>
-        requires event { SoundEvent event }
-        requires sound { SoundReceiver self.old }
-        ensures value { result ≡ received event self.old }
-        ensures after { self.new ≡ heard event self.old }
-        ensures kept { SoundReceiver self.new }
-    {
-        match (*self, event) {
-            (Receiver::Idle, Event::Fall(form)) => *self = Receiver::Start(Receiving::begun(form)),
-            (Receiver::Idle, Event::Tick(_)) | (_, Event::Fall(_)) => {}
-            (Receiver::Start(receiving), Event::Tick(rxd)) if receiving.left <= 1 => {
-                *self = receiving.past_start(rxd);
-            }
-            (Receiver::Data(receiving, place), Event::Tick(rxd)) if receiving.left <= 1 => {
-                *self = receiving.with_bit(place, rxd).past_bit(place);
-            }
-            (Receiver::Parity(receiving), Event::Tick(rxd)) if receiving.left <= 1 => {
-                *self = Receiver::Stop(receiving.with_parity(rxd));
-            }
-            (Receiver::Stop(receiving), Event::Tick(rxd)) if receiving.left <= 1 => {
-                *self = Receiver::Idle;
-                return Some(receiving.outcome(rxd));
-            }
-            (state, Event::Tick(_)) => *self = state.lessened(1),
-        }
-        None
-    }
-
-    fn lessened(self, ticks: u32) -> Receiver
-        requires sound { SoundReceiver self }
-        requires quiet { ticks ≤ quiet_ticks self }
-        ensures value { result ≡ lessened ticks self }
-        ensures kept { SoundReceiver result }
-    {
-        match self {
-            Receiver::Idle => Receiver::Idle,
-            Receiver::Start(receiving) => Receiver::Start(receiving.less(ticks)),
-            Receiver::Data(receiving, place) => Receiver::Data(receiving.less(ticks), place),
-            Receiver::Parity(receiving) => Receiver::Parity(receiving.less(ticks)),
-            Receiver::Stop(receiving) => Receiver::Stop(receiving.less(ticks)),
-        }
+        self.state.horizon()
     }
 }
 
 impl Receiving {
     fn begun(form: Form) -> Receiving
-        requires { SoundForm form }
-        ensures { result ≡ begun form }
+        ensures value { result ≡ begun form }
+        ensures kept { SoundReceiving result 0 }
     {
         Receiving {
             form,
             character: 0,
             parity: false,
-            left: form.ticks / 2,
+            left: form.ticks() / 2,
         }
     }
 
-    fn past_start(self, rxd: bool) -> Receiver
+    fn past_start(self, rxd: bool) -> Stage<Receiving>
         requires { SoundReceiving self 0 }
         ensures value { result ≡ past_start self rxd }
         ensures kept { SoundReceiver result }
     {
         if rxd {
-            Receiver::Idle
+            Stage::Idle
         } else {
-            Receiver::Data(self.lasting(self.form.ticks), 0)
+            Stage::Data(self.lasting(self.form.ticks()), 0)
         }
     }
 
@@ -177,7 +166,7 @@ impl Receiving {
     {
         Receiving {
             character: self.character + worth(place, rxd),
-            left: self.form.ticks,
+            left: self.form.ticks(),
             ..self
         }
     }
@@ -187,37 +176,37 @@ impl Receiving {
     {
         Receiving {
             parity: rxd,
-            left: self.form.ticks,
+            left: self.form.ticks(),
             ..self
         }
     }
 
-    fn past_bit(self, place: u8) -> Receiver
+    fn past_bit(self, place: u8) -> Stage<Receiving>
         requires sound { SoundReceiving self (place + 1) }
         requires place { place < self.form.length }
         ensures value { result ≡ past_bit self place }
         ensures kept { SoundReceiver result }
     {
-        if place + 1 < self.form.length {
-            Receiver::Data(self, place + 1)
+        if place + 1 < self.form.length() {
+            Stage::Data(self, place + 1)
         } else {
             self.past_data()
         }
     }
 
-    fn past_data(self) -> Receiver
+    fn past_data(self) -> Stage<Receiving>
         requires { SoundReceiving self self.form.length }
         ensures value { result ≡ past_data self }
         ensures kept { SoundReceiver result }
     {
-        match self.form.parity {
-            Parity::Off => Receiver::Stop(self),
-            Parity::Even | Parity::Odd => Receiver::Parity(self),
+        if self.form.has_parity() {
+            Stage::Parity(self)
+        } else {
+            Stage::Stop(self)
         }
     }
 
     fn outcome(self, stop: bool) -> Reception
-        requires { SoundForm self.form }
         ensures { result ≡ outcome self.form self.character self.parity stop }
     {
         if self.character == 0 && !self.parity && !stop {
@@ -229,19 +218,6 @@ impl Receiving {
                 framing_error: !stop,
             }
         }
-    }
-
-    fn less(self, ticks: u32) -> Receiving
-        requires { ticks ≤ self.left }
-        ensures { result ≡ lasting (self.left - ticks) self }
-    {
-        self.lasting(self.left - ticks)
-    }
-
-    fn lasting(self, left: u32) -> Receiving
-        ensures { result ≡ lasting left self }
-    {
-        Receiving { left, ..self }
     }
 }
 

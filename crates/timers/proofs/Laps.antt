@@ -10,13 +10,11 @@ use Rattle.timers.specs.Counts.{lowered, ticked, lapsed}
 use Rattle.timers.specs.Duos.{value_of, parted, pair_ticked, pair_lapsed, duo_stepped}
 use Rattle.timers.proofs.Lowering.{times_lowered}
 
-pub ticked_times : (n : ℕ) (t : Timer) → times n ticked t ≡ record { count = times n (lowered 256) t.count }
-ticked_times zero t = refl
-ticked_times (suc n) t = ticked_times n (ticked t)
-
-pub timer_lapsed : (n : ℕ) (on : Bool) (t : Timer) → t.count < 256 → times n (when on ticked) t ≡ when on (lapsed n) t
-timer_lapsed n true t h = ticked_times n t ∙ (let e = times_lowered 256 n t.count h in λ i. record { count = e i })
-timer_lapsed n false t h = times_still n ticked t
+-- A timer goes as its count does.
+pub ticked_times : (n : ℕ) (on : Bool) (t : Timer) → times n (when on ticked) t ≡ record { count = times n (when on (lowered 256)) t.count }
+ticked_times zero on t = refl
+ticked_times (suc n) true t = ticked_times n true (ticked t)
+ticked_times (suc n) false t = ticked_times n false t
 
 -- A joined count and its two timers say the same.
 pub value_parted : (v : ℕ) → value_of (parted v) ≡ v
@@ -28,25 +26,38 @@ parted_value d h =
     let u = div-mul-add d.high.count 256 d.low.count h in
     λ i. record { low = record { count = l i }; high = record { count = u i } }
 
-pub pair_value : (n : ℕ) (d : Duo) → value_of (times n pair_ticked d) ≡ times n (lowered 65536) (value_of d)
-pair_value zero d = refl
-pair_value (suc n) d = pair_value n (pair_ticked d) ∙ ap (times n (lowered 65536)) (value_parted (lowered 65536 (value_of d)))
+-- A duo that is joined goes as its joined count does.
+pub pair_value : (n : ℕ) (on : Bool) (d : Duo) → value_of (times n (when on pair_ticked) d) ≡ times n (when on (lowered 65536)) (value_of d)
+pair_value zero on d = refl
+pair_value (suc n) true d = pair_value n true (pair_ticked d) ∙ ap (times n (lowered 65536)) (value_parted (lowered 65536 (value_of d)))
+pair_value (suc n) false d = pair_value n false d
 
-pair_low : (n : ℕ) (d : Duo) → d.low.count < 256 → (times n pair_ticked d).low.count < 256
-pair_low zero d h = h
-pair_low (suc n) d h = pair_low n (pair_ticked d) (mod_below (lowered 65536 (value_of d)) 256 (omega arith))
+pair_low : (n : ℕ) (on : Bool) (d : Duo) → d.low.count < 256 → (times n (when on pair_ticked) d).low.count < 256
+pair_low zero on d h = h
+pair_low (suc n) true d h = pair_low n true (pair_ticked d) (mod_below (lowered 65536 (value_of d)) 256 (omega arith))
+pair_low (suc n) false d h = pair_low n false d h
 
--- Two bytes make a joined count.
-pub value_below : (d : Duo) → d.low.count < 256 → d.high.count < 256 → value_of d < 65536
-value_below d l h = omega arith
+pub pair_times : (n : ℕ) (on : Bool) (d : Duo) → d.low.count < 256 → times n (when on pair_ticked) d ≡ parted (times n (when on (lowered 65536)) (value_of d))
+pair_times n on d h = sym (parted_value (times n (when on pair_ticked) d) (pair_low n on d h)) ∙ ap parted (pair_value n on d)
 
 -- Apart, each timer goes its own way.
 pub apart_times : (n : ℕ) (l h : Bool) (d : Duo)
-    → times n (duo_stepped (Apart l h)) d ≡ record { low = times n (when l ticked) d.low; high = times n (when h ticked) d.high }
-apart_times zero l h d = refl
-apart_times (suc n) l h d = apart_times n l h (duo_stepped (Apart l h) d)
+    → times n (duo_stepped (Apart l h)) d
+    ≡ record { low = record { count = times n (when l (lowered 256)) d.low.count }; high = record { count = times n (when h (lowered 256)) d.high.count } }
+apart_times n l h d = each n d ∙ (λ i. record { low = ticked_times n l d.low i; high = ticked_times n h d.high i })
+  where
+    each : (n : ℕ) (d : Duo) → times n (duo_stepped (Apart l h)) d ≡ record { low = times n (when l ticked) d.low; high = times n (when h ticked) d.high }
+    each zero d = refl
+    each (suc n) d = each n (duo_stepped (Apart l h) d)
+
+-- n steps at once: of a timer, and of a duo that is joined.
+pub timer_lapsed : (n : ℕ) (on : Bool) (t : Timer) → t.count < 256 → times n (when on ticked) t ≡ when on (lapsed n) t
+timer_lapsed n true t h = ticked_times n true t ∙ (let e = times_lowered 256 n t.count h in λ i. record { count = e i })
+timer_lapsed n false t h = times_still n ticked t
+
+-- Two bytes make a joined count.
+value_below : (d : Duo) → d.low.count < 256 → d.high.count < 256 → value_of d < 65536
+value_below d l h = omega arith
 
 pub pair_lapsed_lem : (n : ℕ) (d : Duo) → d.low.count < 256 → d.high.count < 256 → times n pair_ticked d ≡ pair_lapsed n d
-pair_lapsed_lem n d l h =
-    sym (parted_value (times n pair_ticked d) (pair_low n d l))
-    ∙ ap parted (pair_value n d ∙ times_lowered 65536 n (value_of d) (value_below d l h))
+pair_lapsed_lem n d l h = pair_times n true d l ∙ ap parted (times_lowered 65536 n (value_of d) (value_below d l h))

@@ -5,7 +5,7 @@ use Rattle.timers.specs.declared.duo.Units.{Units}
 use Rattle.timers.specs.declared.modes.TimerModes.{TimerModes}
 use Rattle.timers.specs.declared.modes.Fired.{Fired}
 use Rattle.timers.specs.declared.timers.Timers.{Timers}
-use Rattle.timers.specs.Counts.{fires, ticked, far}
+use Rattle.timers.specs.Counts.{lowered, fires, far}
 use Rattle.timers.specs.Duos.{duo_stepped, duo_fired, DuoQuiet, duo_heard}
 use Rattle.timers.specs.Stepping.{even_clock, odd_clock, stepped, reported, firing, even_watch, odd_watch, Quiet, heard}
 use Rattle.timers.proofs.Waits.{min_choice}
@@ -14,7 +14,7 @@ use Rattle.timers.proofs.Waits.{min_choice}
 pub times_stepped : (n : ℕ) (m : TimerModes) (t : Timers)
     → times n (stepped m) t
     ≡ record {
-      one = times n ticked t.one;
+      one = record { count = times n (lowered 256) t.one.count };
       even = times n (duo_stepped (even_clock m)) t.even;
       odd = times n (duo_stepped (odd_clock m t.trigger.resting)) t.odd;
       trigger = t.trigger;
@@ -53,7 +53,7 @@ reported_heard p e o w (inr (inr q)) =
 
 -- The requests of the parts in the step after k steps.
 abbrev pub one_after : ℕ → Timers → Bool
-one_after k t = fires (times k ticked t.one).count
+one_after k t = fires (times k (lowered 256) t.one.count)
 
 abbrev pub even_after : TimerModes → ℕ → Timers → Units
 even_after m k t = duo_fired (even_clock m) (times k (duo_stepped (even_clock m)) t.even)

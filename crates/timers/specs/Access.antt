@@ -32,34 +32,30 @@ count_of Five t = t.odd.high.count
 -- A byte written to timer 5: saved for the trigger under T5C, else its count.
 abbrev pub written_five : Bool → ℕ → Timers → Timers
 written_five t5c b t =
-    record {
-      one = t.one;
-      even = t.even;
-      odd = record { low = t.odd.low; high = cond t5c t.odd.high (holding b) };
-      trigger = record { save = cond t5c b t.trigger.save; resting = t.trigger.resting };
+    record t {
+      odd = record t.odd { high = cond t5c t.odd.high (holding b) };
+      trigger = record t.trigger { save = cond t5c b t.trigger.save };
     }
 
 -- A byte written to a timer is its count, and no other timer changes.
 abbrev pub written : Number → ℕ → Bool → Timers → Timers
-written One b t5c t = record { one = holding b; even = t.even; odd = t.odd; trigger = t.trigger }
-written Two b t5c t = record { one = t.one; even = record { low = holding b; high = t.even.high }; odd = t.odd; trigger = t.trigger }
-written Three b t5c t = record { one = t.one; even = t.even; odd = record { low = holding b; high = t.odd.high }; trigger = t.trigger }
-written Four b t5c t = record { one = t.one; even = record { low = t.even.low; high = holding b }; odd = t.odd; trigger = t.trigger }
+written One b t5c t = record t { one = holding b }
+written Two b t5c t = record t { even = record t.even { low = holding b } }
+written Three b t5c t = record t { odd = record t.odd { low = holding b } }
+written Four b t5c t = record t { even = record t.even { high = holding b } }
 written Five b t5c t = written_five t5c b t
 
 -- The trigger loads timer 5 with the saved byte, its pair's low timer with 255, and ends the rest.
 abbrev pub restarted : Bool → Timers → Timers
 restarted joined t =
-    record {
-      one = t.one;
-      even = t.even;
+    record t {
       odd = record { low = cond joined (holding 255) t.odd.low; high = holding t.trigger.save };
-      trigger = record { save = t.trigger.save; resting = false };
+      trigger = record t.trigger { resting = false };
     }
 
 -- A fall of the trigger pin counts only under T5C.
 abbrev pub triggered : TimerModes → Timers → Timers
-triggered m t = when m.t5c (restarted m.t35) t
+triggered m t = when m.t5c (restarted m.odd.joined) t
 
 -- T5C turned on starts the rest, left on keeps it, off ends it.
 abbrev pub rest_after : Bool → Bool → Bool → Bool
@@ -67,8 +63,7 @@ rest_after was is rests = cond is (cond was rests true) false
 
 -- The timers after a write that takes T5C from one state to another.
 abbrev pub selected : Bool → Bool → Timers → Timers
-selected was is t =
-    record { one = t.one; even = t.even; odd = t.odd; trigger = record { save = t.trigger.save; resting = rest_after was is t.trigger.resting } }
+selected was is t = record t { trigger = record t.trigger { resting = rest_after was is t.trigger.resting } }
 
 -- The counts in the order of the timers 1 to 5.
 abbrev pub counts_of : Timers → List ℕ

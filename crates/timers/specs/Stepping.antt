@@ -1,28 +1,39 @@
 -- The five timers under the timer clock and the counted edges.
-use Rattle.std.specs.Prelude.{◌≡◌, ℕ, min, Bool, true, false, not, ◌&&◌, ◌||◌}
+use Rattle.std.specs.Prelude.{◌≡◌, ℕ, min, Bool, false, not, ◌&&◌, ◌||◌}
 use Rattle.timers.specs.declared.duo.Units.{Units}
 use Rattle.timers.specs.declared.duo.Drive.{Drive}
 use Rattle.timers.specs.declared.modes.TimerModes.{TimerModes}
+use Rattle.timers.specs.declared.modes.DuoModes.{DuoModes}
+use Rattle.timers.specs.declared.modes.Side.{Side}
+use Rattle.timers.specs.declared.modes.Side.TheVariants.{Even, Odd}
 use Rattle.timers.specs.declared.modes.Fired.{Fired}
 use Rattle.timers.specs.declared.timers.Timers.{Timers}
 use Rattle.timers.specs.Counts.{fires, wait, ticked, lapsed}
 use Rattle.timers.specs.Duos.{driven, duo_stepped, duo_lapsed, duo_fired, duo_wait}
 
--- The clock drives timer 2 unless it counts edges, and timer 4.
+-- The clock drives the low timer of a duo unless it counts edges, and the high one unless it rests.
+abbrev pub by_clock : DuoModes → Bool → Drive
+by_clock d rests = driven d.joined (not d.counts_edges) (not rests)
+
+-- A counted edge drives the low timer, and the high one only as its pair and unless it rests.
+abbrev pub by_edge : DuoModes → Bool → Drive
+by_edge d rests = driven d.joined d.counts_edges (d.joined && not rests)
+
+-- The clock drives timer 2 unless it counts edges, and timer 4: neither ever rests.
 abbrev pub even_clock : TimerModes → Drive
-even_clock m = driven m.t24 (not m.ct2) true
+even_clock m = by_clock m.even false
 
 -- The clock drives timer 3 unless it counts edges, and timer 5 unless it rests.
 abbrev pub odd_clock : TimerModes → Bool → Drive
-odd_clock m rests = driven m.t35 (not m.ct3) (not rests)
+odd_clock m rests = by_clock m.odd rests
 
 -- A counted edge drives timer 2, and timer 4 only as its pair.
 abbrev pub even_edge : TimerModes → Drive
-even_edge m = driven m.t24 m.ct2 m.t24
+even_edge m = by_edge m.even false
 
 -- A counted edge drives timer 3, and timer 5 only as its pair and unless it rests.
 abbrev pub odd_edge : TimerModes → Bool → Drive
-odd_edge m rests = driven m.t35 m.ct3 (m.t35 && not rests)
+odd_edge m rests = by_edge m.odd rests
 
 -- The levels on which timer 1 and the units of the duos request: the pair 2 and 4 as timer 4, the pair 3 and 5 as timer 3.
 abbrev pub reported : Bool → Units → Units → Fired
@@ -86,18 +97,17 @@ pub record Quiet (f w : Fired) : Type 0 where
 abbrev pub heard : Fired → Fired → Bool
 heard f w = (f.one && w.one) || ((f.two && w.two) || ((f.three && w.three) || ((f.four && w.four) || (f.five && w.five))))
 
--- The timers after a counted edge of timer 2, or of the pair 2 and 4.
-abbrev pub counted_two : TimerModes → Timers → Timers
-counted_two m t = record { one = t.one; even = duo_stepped (even_edge m) t.even; odd = t.odd; trigger = t.trigger }
+-- The modes of a duo.
+abbrev pub modes_at : Side → TimerModes → DuoModes
+modes_at Even m = m.even
+modes_at Odd m = m.odd
+
+-- The timers after a counted edge of timer 2, or of the pair 2 and 4; of timer 3, or of the pair 3 and 5.
+abbrev pub edge_counted : Side → TimerModes → Timers → Timers
+edge_counted Even m t = record t { even = duo_stepped (even_edge m) t.even }
+edge_counted Odd m t = record t { odd = duo_stepped (odd_edge m t.trigger.resting) t.odd }
 
 -- Which timers that edge takes from 1 to 0.
-abbrev pub firing_two : TimerModes → Timers → Fired
-firing_two m t = reported false (duo_fired (even_edge m) t.even) silent
-
--- The timers after a counted edge of timer 3, or of the pair 3 and 5.
-abbrev pub counted_three : TimerModes → Timers → Timers
-counted_three m t = record { one = t.one; even = t.even; odd = duo_stepped (odd_edge m t.trigger.resting) t.odd; trigger = t.trigger }
-
--- Which timers that edge takes from 1 to 0.
-abbrev pub firing_three : TimerModes → Timers → Fired
-firing_three m t = reported false silent (duo_fired (odd_edge m t.trigger.resting) t.odd)
+abbrev pub edge_firing : Side → TimerModes → Timers → Fired
+edge_firing Even m t = reported false (duo_fired (even_edge m) t.even) silent
+edge_firing Odd m t = reported false silent (duo_fired (odd_edge m t.trigger.resting) t.odd)

@@ -1,11 +1,14 @@
-// How far a count is from its request.
-ghost use Rattle.std.specs.Prelude.{◌≡◌, ℕ, ◌<◌, nat_le};
-ghost use Rattle.timers.specs.Counts.{distance, fires_within, wait};
+// A count that each step lowers by one, and how far it is from its request.
+ghost use Rattle.std.specs.Prelude.{◌≡◌, ℕ, ◌<◌, nat_le, true, false, ◌&&◌};
+ghost use Rattle.std.proofs.Common.{rules};
+ghost use Rattle.timing.specs.Run.{times, when};
+ghost use Rattle.timers.specs.Counts.{lowered, fires, distance, fires_within, behind, wait, far};
 
 // Longer than any count takes to request.
 pub const FAR: u64 = 16_777_216;
 
 // The steps until the count is 0 by a step from 1: a request falls within n steps exactly if n is as many.
+#[tactic(auto, using(crate::proofs::Lowering::fires_within_lem))]
 pub fn until_zero(modulus: u32, count: u32) -> u32
     requires wide { 1 < modulus }
     requires below { count < modulus }
@@ -16,7 +19,7 @@ pub fn until_zero(modulus: u32, count: u32) -> u32
 }
 
 // The steps before the request of a heeded count.
-pub(crate) fn quiet_steps(heeded: bool, modulus: u32, count: u32) -> u64
+fn quiet_steps(heeded: bool, modulus: u32, count: u32) -> u64
     requires wide { 1 < modulus }
     requires below { count < modulus }
     ensures { result ≡ wait heeded modulus count }
@@ -25,5 +28,95 @@ pub(crate) fn quiet_steps(heeded: bool, modulus: u32, count: u32) -> u64
         u64::from(until_zero(modulus, count) - 1)
     } else {
         FAR
+    }
+}
+
+// A count of some width: the 8 bits of a timer, the 16 of a joined pair.
+pub(crate) trait Count: Copy {
+    ghost MODULUS: { ℕ };
+
+    ghost number: { Self → ℕ };
+
+    const MODULUS: u32;
+
+    fn number(self) -> u32
+        ensures value { result ≡ number self }
+        ensures below { number self < MODULUS };
+
+    // n steps lower.
+    fn back(self, n: u64) -> Self
+        ensures value { number result ≡ behind MODULUS n (number self) }
+        ensures below { number self < MODULUS };
+
+    ghost wide: { 1 < MODULUS };
+
+    // One step if the count is on; whether it goes from 1 to 0.
+    #[tactic(auto, using(crate::proofs::Lowering::one_back))]
+    final fn step(&mut self, on: bool) -> bool
+        ensures tells { result ≡ (on && fires (number self.old)) }
+        ensures state { number self.new ≡ when on (lowered MODULUS) (number self.old) }
+    {
+        if !on {
+            return false;
+        }
+        let fired = self.number() == 1;
+        *self = self.back(1);
+        fired
+    }
+
+    // n steps at once.
+    #[tactic(auto, using(crate::proofs::Lowering::steps_when, crate::proofs::Lowering::steps_off))]
+    final fn skip(&mut self, n: u64, on: bool)
+        ensures state { number self.new ≡ times n (when on (lowered MODULUS)) (number self.old) }
+        ensures modulo { number self.new ≡ when on (behind MODULUS n) (number self.old) }
+    {
+        if on {
+            *self = self.back(n);
+        }
+    }
+
+    // The steps before the one in which the count requests, where it is on and watched.
+    final fn wait(self, on: bool, watched: bool) -> u64
+        ensures value { result ≡ wait (on && watched) MODULUS (number self) }
+        ensures quiet { (k : ℕ) → k < result → ((on && fires (times k (when on (lowered MODULUS)) (number self))) && watched) ≡ false }
+        ensures ends { result < far → ((on && fires (times result (when on (lowered MODULUS)) (number self))) && watched) ≡ true }
+    {
+        quiet_steps(on && watched, Self::MODULUS, self.number())
+    }
+}
+
+impl Count for u8 {
+    ghost MODULUS = { 256 };
+
+    ghost number = { λ c. c };
+
+    ghost wide = { Prim.search rules };
+
+    const MODULUS: u32 = 256;
+
+    fn number(self) -> u32 {
+        u32::from(self)
+    }
+
+    fn back(self, n: u64) -> u8 {
+        self.wrapping_sub((n % 256) as u8)
+    }
+}
+
+impl Count for u16 {
+    ghost MODULUS = { 65536 };
+
+    ghost number = { λ c. c };
+
+    ghost wide = { Prim.search rules };
+
+    const MODULUS: u32 = 65536;
+
+    fn number(self) -> u32 {
+        u32::from(self)
+    }
+
+    fn back(self, n: u64) -> u16 {
+        self.wrapping_sub((n % 65536) as u16)
     }
 }

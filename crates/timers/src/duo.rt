@@ -4,10 +4,10 @@ ghost use Rattle.timing.specs.Run.{times, when};
 ghost use Rattle.timers.specs.Counts.{far, fires};
 ghost use Rattle.timers.specs.Duos.{driven, value_of, parted, pair_ticked, pair_lapsed, duo_stepped, duo_lapsed, duo_fired, duo_wait, DuoQuiet, duo_heard};
 
-use crate::count::quiet_steps;
+use crate::count::Count;
 use crate::timer::Timer;
 
-#[derive(Clone, Copy)]
+#[derive(Clone, Copy, Default)]
 pub struct Duo {
     pub low: Timer,
     pub high: Timer,
@@ -21,19 +21,11 @@ pub(crate) enum Drive {
 }
 
 // A set of a duo's units: each timer alone, and the two as a pair.
-#[derive(Clone, Copy)]
+#[derive(Clone, Copy, Default)]
 pub(crate) struct Units {
     pub low: bool,
     pub high: bool,
     pub pair: bool,
-}
-
-impl Units {
-    pub(crate) const NONE: Units = Units {
-        low: false,
-        high: false,
-        pair: false,
-    };
 }
 
 impl Drive {
@@ -49,6 +41,7 @@ impl Drive {
 }
 
 impl Duo {
+    // The joined count. Casts, as `u16::from` and `from_be_bytes` leave the proof without the fact that each byte is below 256.
     fn value(&self) -> u16
         ensures joined { result ≡ value_of self.now }
         ensures bytes { (self.now.low.count < 256) × (self.now.high.count < 256) }
@@ -56,6 +49,7 @@ impl Duo {
         self.high.count as u16 * 256 + self.low.count as u16
     }
 
+    // Its inverse, and as private: a `From` would be one more public call.
     fn parted(value: u16) -> Duo
         ensures { result ≡ parted value }
     {
@@ -76,50 +70,38 @@ impl Duo {
     {
         match drive {
             Drive::Apart { low, high } => Units {
-                low: self.low.step(low),
-                high: self.high.step(high),
+                low: self.low.count.step(low),
+                high: self.high.count.step(high),
                 pair: false,
             },
-            Drive::Joined { on } => Units {
-                low: false,
-                high: false,
-                pair: self.step_joined(on),
-            },
+            Drive::Joined { on } => {
+                let mut value = self.value();
+                let pair = value.step(on);
+                *self = Duo::parted(value);
+                Units {
+                    pair,
+                    ..Units::default()
+                }
+            }
         }
-    }
-
-    fn step_joined(&mut self, on: bool) -> bool
-        ensures tells { result ≡ (on && fires (value_of self.old)) }
-        ensures state { self.new ≡ when on pair_ticked self.old }
-    {
-        if !on {
-            return false;
-        }
-        let value = self.value();
-        *self = Duo::parted(value.wrapping_sub(1));
-        value == 1
     }
 
     // n steps at once.
+    #[tactic(auto, using(crate::proofs::Laps::apart_times))]
     pub(crate) fn skip(&mut self, n: u64, drive: Drive)
         ensures state { self.new ≡ times n (duo_stepped drive) self.old }
         ensures modulo { self.new ≡ duo_lapsed drive n self.old }
     {
         match drive {
             Drive::Apart { low, high } => {
-                self.low.skip(n, low);
-                self.high.skip(n, high);
+                self.low.count.skip(n, low);
+                self.high.count.skip(n, high);
             }
-            Drive::Joined { on } => self.skip_joined(n, on),
-        }
-    }
-
-    fn skip_joined(&mut self, n: u64, on: bool)
-        ensures state { self.new ≡ times n (when on pair_ticked) self.old }
-        ensures modulo { self.new ≡ when on (pair_lapsed n) self.old }
-    {
-        if on {
-            *self = Duo::parted(self.value().wrapping_sub((n % 65536) as u16));
+            Drive::Joined { on } => {
+                let mut value = self.value();
+                value.skip(n, on);
+                *self = Duo::parted(value);
+            }
         }
     }
 
@@ -131,12 +113,10 @@ impl Duo {
     {
         match drive {
             Drive::Apart { low, high } => {
-                let first = self.low.wait(low, watched.low);
-                first.min(self.high.wait(high, watched.high))
+                let first = self.low.count.wait(low, watched.low);
+                first.min(self.high.count.wait(high, watched.high))
             }
-            Drive::Joined { on } => {
-                quiet_steps(on && watched.pair, 65536, u32::from(self.value()))
-            }
+            Drive::Joined { on } => self.value().wait(on, watched.pair),
         }
     }
 }

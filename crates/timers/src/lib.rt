@@ -10,6 +10,6 @@ mod timers;
 
 pub use count::{FAR, until_zero};
 pub use duo::Duo;
-pub use modes::{Fired, Number, TimerModes};
+pub use modes::{DuoModes, Fired, Number, Side, TimerModes};
 pub use timer::Timer;
 pub use timers::{Timers, Trigger};

@@ -1,21 +1,32 @@
 // How the timers are joined and driven, and how they are told apart.
 ghost use Rattle.std.specs.Prelude.{◌≡◌};
-ghost use Rattle.timers.specs.Stepping.{even_clock, odd_clock, even_edge, odd_edge, reported, even_watch, odd_watch};
+ghost use Rattle.timers.specs.Stepping.{by_clock, by_edge, reported, even_watch, odd_watch};
 
 use crate::duo::{Drive, Units};
 
 #[derive(Clone, Copy)]
 pub struct TimerModes {
-    // Timers 3 and 5 are one counter of 16 bits.
-    pub t35: bool,
-    // Timers 2 and 4 are one counter of 16 bits.
-    pub t24: bool,
+    // Timers 2 and 4: T24 and CT2.
+    pub even: DuoModes,
+    // Timers 3 and 5: T35 and CT3.
+    pub odd: DuoModes,
     // Timer 5 rests until its trigger.
     pub t5c: bool,
-    // Timer 3 counts edges.
-    pub ct3: bool,
-    // Timer 2 counts edges.
-    pub ct2: bool,
+}
+
+#[derive(Clone, Copy)]
+pub struct DuoModes {
+    // The two timers are one counter of 16 bits.
+    pub joined: bool,
+    // The low timer, or the pair, counts edges.
+    pub counts_edges: bool,
+}
+
+// Which duo: timers 2 and 4, or timers 3 and 5.
+#[derive(Clone, Copy)]
+pub enum Side {
+    Even,
+    Odd,
 }
 
 // A set of timers: those that went from 1 to 0, a pair as the timer on whose level it requests, or those that are watched.
@@ -37,29 +48,17 @@ pub enum Number {
     Five,
 }
 
-impl TimerModes {
-    pub(crate) fn even_clock(self) -> Drive
-        ensures { result ≡ even_clock self }
+impl DuoModes {
+    pub(crate) fn clock(self, resting: bool) -> Drive
+        ensures { result ≡ by_clock self resting }
     {
-        Drive::new(self.t24, !self.ct2, true)
+        Drive::new(self.joined, !self.counts_edges, !resting)
     }
 
-    pub(crate) fn odd_clock(self, resting: bool) -> Drive
-        ensures { result ≡ odd_clock self resting }
+    pub(crate) fn edge(self, resting: bool) -> Drive
+        ensures { result ≡ by_edge self resting }
     {
-        Drive::new(self.t35, !self.ct3, !resting)
-    }
-
-    pub(crate) fn even_edge(self) -> Drive
-        ensures { result ≡ even_edge self }
-    {
-        Drive::new(self.t24, self.ct2, self.t24)
-    }
-
-    pub(crate) fn odd_edge(self, resting: bool) -> Drive
-        ensures { result ≡ odd_edge self resting }
-    {
-        Drive::new(self.t35, self.ct3, self.t35 && !resting)
+        Drive::new(self.joined, self.counts_edges, self.joined && !resting)
     }
 }
 
@@ -76,6 +75,7 @@ impl Fired {
         }
     }
 
+    // Not one function of the side, which it would only match on: the even pair requests as its high timer, the odd one as its low timer.
     pub(crate) fn even_units(self) -> Units
         ensures { result ≡ even_watch self }
     {

@@ -2,14 +2,15 @@
 ghost use Rattle.std.specs.Prelude.{◌≡◌, ℕ, ◌<◌, true, false};
 ghost use Rattle.timing.specs.Run.{times};
 ghost use Rattle.timers.specs.Counts.{far};
-ghost use Rattle.timers.specs.Stepping.{stepped, firing, all_lapsed, quiet_for, Quiet, heard, counted_two, firing_two, counted_three, firing_three, no_timer};
+ghost use Rattle.timers.specs.Stepping.{stepped, firing, all_lapsed, quiet_for, Quiet, heard, modes_at, edge_counted, edge_firing, no_timer};
 ghost use Rattle.timers.specs.Access.{cleared_timers, count_of, written, triggered, selected, counts_of};
 
+use crate::count::Count;
 use crate::duo::{Duo, Units};
-use crate::modes::{Fired, Number, TimerModes};
+use crate::modes::{Fired, Number, Side, TimerModes};
 use crate::timer::Timer;
 
-#[derive(Clone, Copy)]
+#[derive(Clone, Copy, Default)]
 pub struct Timers {
     pub one: Timer,
     // Timers 2 and 4.
@@ -20,7 +21,7 @@ pub struct Timers {
 }
 
 // What the trigger mode keeps: the byte that timer 5 starts from, and whether it still rests.
-#[derive(Clone, Copy)]
+#[derive(Clone, Copy, Default)]
 pub struct Trigger {
     pub save: u8,
     pub resting: bool,
@@ -30,20 +31,7 @@ impl Timers {
     pub fn new() -> Timers
         ensures { result ≡ cleared_timers }
     {
-        let zero = Timer { count: 0 };
-        let both = Duo {
-            low: zero,
-            high: zero,
-        };
-        Timers {
-            one: zero,
-            even: both,
-            odd: both,
-            trigger: Trigger {
-                save: 0,
-                resting: false,
-            },
-        }
+        Timers::default()
     }
 
     // One step of the timer clock; the timers that go from 1 to 0.
@@ -51,21 +39,22 @@ impl Timers {
         ensures tells { result ≡ firing modes self.old }
         ensures state { self.new ≡ stepped modes self.old }
     {
-        let drive = modes.odd_clock(self.trigger.resting);
-        let one = self.one.step(true);
-        let even = self.even.step(modes.even_clock());
+        let drive = modes.odd.clock(self.trigger.resting);
+        let one = self.one.count.step(true);
+        let even = self.even.step(modes.even.clock(false));
         let odd = self.odd.step(drive);
         Fired::new(one, even, odd)
     }
 
     // n steps of the timer clock at once.
+    #[tactic(auto, using(crate::proofs::Steps::times_stepped))]
     pub fn skip(&mut self, n: u64, modes: TimerModes)
         ensures state { self.new ≡ times n (stepped modes) self.old }
         ensures modulo { self.new ≡ all_lapsed modes n self.old }
     {
-        let drive = modes.odd_clock(self.trigger.resting);
-        self.one.skip(n, true);
-        self.even.skip(n, modes.even_clock());
+        let drive = modes.odd.clock(self.trigger.resting);
+        self.one.count.skip(n, true);
+        self.even.skip(n, modes.even.clock(false));
         self.odd.skip(n, drive);
     }
 
@@ -75,31 +64,31 @@ impl Timers {
         ensures quiet { (k : ℕ) → k < result → Quiet (firing modes (times k (stepped modes) self.now)) watched }
         ensures ends { result < far → heard (firing modes (times result (stepped modes) self.now)) watched ≡ true }
     {
-        let one = self.one.wait(true, watched.one);
-        let even = self.even.wait(modes.even_clock(), watched.even_units());
-        let drive = modes.odd_clock(self.trigger.resting);
+        let one = self.one.count.wait(true, watched.one);
+        let even = self
+            .even
+            .wait(modes.even.clock(false), watched.even_units());
+        let drive = modes.odd.clock(self.trigger.resting);
         let odd = self.odd.wait(drive, watched.odd_units());
         one.min(even.min(odd))
     }
 
-    // A rise on the pin that timer 2, or its pair, counts under CT2; the timers that go from 1 to 0.
-    pub fn count_two(&mut self, modes: TimerModes) -> Fired
-        ensures tells { result ≡ firing_two modes self.old }
-        ensures state { self.new ≡ counted_two modes self.old }
-        ensures idle { modes.ct2 ≡ false → (self.new ≡ self.old) × (result ≡ no_timer) }
+    // A rise on the pin that timer 2 counts under CT2, or timer 3 under CT3, each as itself or, unless it rests, as its pair; the timers that go from 1 to 0.
+    pub fn count_edge(&mut self, side: Side, modes: TimerModes) -> Fired
+        ensures tells { result ≡ edge_firing side modes self.old }
+        ensures state { self.new ≡ edge_counted side modes self.old }
+        ensures idle { (modes_at side modes).counts_edges ≡ false → (self.new ≡ self.old) × (result ≡ no_timer) }
     {
-        let even = self.even.step(modes.even_edge());
-        Fired::new(false, even, Units::NONE)
-    }
-
-    // A rise on the pin that timer 3, or its pair unless it rests, counts under CT3; the timers that go from 1 to 0.
-    pub fn count_three(&mut self, modes: TimerModes) -> Fired
-        ensures tells { result ≡ firing_three modes self.old }
-        ensures state { self.new ≡ counted_three modes self.old }
-        ensures idle { modes.ct3 ≡ false → (self.new ≡ self.old) × (result ≡ no_timer) }
-    {
-        let odd = self.odd.step(modes.odd_edge(self.trigger.resting));
-        Fired::new(false, Units::NONE, odd)
+        match side {
+            Side::Even => {
+                let even = self.even.step(modes.even.edge(false));
+                Fired::new(false, even, Units::default())
+            }
+            Side::Odd => {
+                let odd = self.odd.step(modes.odd.edge(self.trigger.resting));
+                Fired::new(false, Units::default(), odd)
+            }
+        }
     }
 
     // A fall on the trigger pin. A load is no step: nothing requests.
@@ -107,7 +96,7 @@ impl Timers {
         ensures { self.new ≡ triggered modes self.old }
     {
         if modes.t5c {
-            if modes.t35 {
+            if modes.odd.joined {
                 self.odd.low.count = 255;
             }
             self.odd.high.count = self.trigger.save;

@@ -4,4 +4,4 @@
 
 mod accumulator;
 
-pub use accumulator::Accumulator;
+pub use accumulator::{Accumulator, Ratio};

@@ -16,18 +16,20 @@ impl Partner for Recorded {
         ensures steady { Steady result (tape self.now) }
         ensures clocks { result ≡ quiet_for (waiting self.now) }
     {
-        self.left().unwrap_or(QUIET_MOST).min(QUIET_MOST)
+        self.left
+            .map_or(QUIET_MOST, |left| u64::from(left.max(1)).min(QUIET_MOST))
     }
 
-    fn advance(&mut self, clocks: u64) {
-        let mut clocks = clocks;
-        while let Some(left) = self.left() {
-            if clocks < left {
-                self.gone += clocks as u32;
+    fn advance(&mut self, mut clocks: u64) {
+        while let Some(left) = self.left {
+            let wait = u64::from(left.max(1));
+            if clocks < wait {
+                self.left = Some(left - clocks as u32);
                 return;
             }
-            clocks -= left;
-            self.turn();
+            clocks -= wait;
+            self.left = self.waits.next();
+            self.level = !self.level;
         }
     }
 

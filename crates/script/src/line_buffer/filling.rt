@@ -1,17 +1,13 @@
-ghost use Rattle.script.specs.Buffers.{kept};
-ghost use Rattle.script.specs.Lines.{kept_bytes, StartDecides};
-ghost use Rattle.std.specs.Prelude.{◌≡◌, [], ◌∷◌, ◌++◌, take, is_ok, if◌then◌else◌};
+ghost use Rattle.script.specs.Lines.{kept_bytes, DecidedBy, StartDecides};
+ghost use Rattle.std.specs.Prelude.{◌≡◌, ◌≤◌, [], ◌∷◌, ◌++◌, take, is_ok, if◌then◌else◌};
 
 use super::LineBuffer;
 use std::alloc::{AllocError, Global};
 
-// One more than the longest note has.
-const KEPT_BYTES: usize = 81;
-
-impl LineBuffer {
+impl<const KEPT: usize> LineBuffer<KEPT> {
     /// An empty line.
-    pub fn new(heap: Global) -> LineBuffer
-        ensures { kept result ≡ [] }
+    pub fn new(heap: Global) -> LineBuffer<KEPT>
+        ensures { result ≡ [] }
     {
         LineBuffer {
             bytes: Vec::new(heap),
@@ -20,9 +16,9 @@ impl LineBuffer {
 
     /// The next byte of the line, which is kept if it is among the first.
     pub fn push(&mut self, byte: u8) -> Result<(), AllocError>
-        ensures { kept self.new ≡ (if is_ok result then take kept_bytes (kept self.old ++ byte ∷ []) else kept self.old) }
+        ensures { self.new ≡ (if is_ok result then take KEPT (self.old ++ byte ∷ []) else self.old) }
     {
-        if self.bytes.len() < KEPT_BYTES {
+        if self.bytes.len() < KEPT {
             self.bytes.push(byte)?;
         }
         Ok(())
@@ -30,15 +26,17 @@ impl LineBuffer {
 
     /// Another line begins.
     pub fn clear(&mut self)
-        ensures { kept self.new ≡ [] }
+        ensures { self.new ≡ [] }
     {
         self.bytes.clear();
     }
 
-    /// The bytes kept, which say what the whole line does.
+    /// The bytes kept. The first 81 of a line say what the whole line does, and so do more than these.
+    #[tactic(auto, using(crate::proofs::Start::start_decides, crate::proofs::Start::more_decides))]
     pub fn bytes(&self) -> &[u8]
-        ensures value { result.now ≡ kept self.now }
+        ensures value { result.now ≡ self.now }
         ensures start { StartDecides }
+        ensures more { kept_bytes ≤ KEPT → DecidedBy KEPT }
     {
         self.bytes.as_slice()
     }
@@ -51,7 +49,7 @@ mod tests {
 
     #[test]
     fn a_long_line_keeps_its_first_81_bytes(rt: HostRuntime) -> Result<(), AllocError> {
-        let mut line = LineBuffer::new(rt.alloc());
+        let mut line = LineBuffer::<81>::new(rt.alloc());
         for byte in 0..100u8 {
             line.push(byte)?;
         }

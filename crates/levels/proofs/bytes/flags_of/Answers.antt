@@ -1,6 +1,11 @@
-use Rattle.std.proofs.Common.{refl, arith}
-use Rattle.levels.proofs.Packing.{byte_flags}
+use Rattle.std.proofs.Common.{rules, ◌==◌, ◌/◌, ◌%◌, ◌^◌, false, ap, ◌∙◌, arith}
+use Rattle.levels.specs.Bytes.{byte}
+use Rattle.levels.proofs.Meeting.{made}
+use Rattle.levels.proofs.Packing.{byte_flags, flags_made}
 use Rattle.levels.proofs.bytes.flags_of.Goals as goal
 
 pub returns : goal.returns
-returns c = record { bits = refl; back = byte_flags c.args.word (omega arith) }
+returns c =
+    let e = made _ (λ k. c.args.word / 2 ^ k % 2 == 1) _ (λ i y q k. search rules) c.from_fn.result 8 false c.from_fn.ensures.items
+    ∙ flags_made c.args.word in
+    record { bits = e; back = ap byte e ∙ byte_flags c.args.word (omega arith) }

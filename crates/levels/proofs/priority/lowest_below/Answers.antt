@@ -1,34 +1,13 @@
-use Rattle.std.proofs.Common.{sym, ◌∙◌, arith}
-use Rattle.levels.specs.Sets.{lowest, below}
-use Rattle.levels.proofs.Lowest.{past_none, left_cut, left_more, left_found, left_all}
+use Rattle.std.proofs.Common.{rules, arith}
+use Rattle.std.proofs.lemmas.Bool.Decides.{nat_tests}
+use Rattle.levels.proofs.Lowest.{lowest_below}
 use Rattle.levels.proofs.priority.lowest_below.Goals as goal
 
-pub loop-level-init : goal.loop-level-init
-loop-level-init c = past_none (lowest (below c.args.requests.now c.args.service.now))
+pub returns-in_err-level : goal.returns-in_err-level
+returns-in_err-level c = rw (lowest_below c.args.requests.now c.args.service.now (omega arith)) (grind (arith, nat_tests))
 
-pub loop-level-preserved : goal.loop-level-preserved
-loop-level-preserved c =
-    c.loop-level.invariant
-    ∙ left_more c.args.requests.now c.args.service.now c.loop-level.level (omega arith) (omega arith)
-    c.if-service-place.false c.if-requests-place.false
+pub returns-in-Some : goal.returns-in-Some
+returns-in-Some c = rw (lowest_below c.args.requests.now c.args.service.now (omega arith)) (grind (arith, nat_tests))
 
-pub returns-then-service-place : goal.returns-then-service-place
-returns-then-service-place c = record {
-  picks = sym (c.loop-level.invariant
-      ∙ left_cut c.args.requests.now c.args.service.now c.loop-level.level (omega arith) (omega arith) c.if-service-place.true);
-  within = tt;
-}
-
-pub returns-then-requests-place : goal.returns-then-requests-place
-returns-then-requests-place c = record {
-  picks = sym (c.loop-level.invariant
-      ∙ left_found c.args.requests.now c.args.service.now c.loop-level.level (omega arith) (omega arith)
-      c.if-service-place.false c.if-requests-place.true);
-  within = omega arith;
-}
-
-pub returns : goal.returns
-returns c = record {
-  picks = sym (c.loop-level.invariant ∙ left_all c.args.requests.now c.args.service.now c.loop-level.level (omega arith));
-  within = tt;
-}
+pub returns-in_default : goal.returns-in_default
+returns-in_default c = rw (lowest_below c.args.requests.now c.args.service.now (omega arith)) (grind (arith, nat_tests))

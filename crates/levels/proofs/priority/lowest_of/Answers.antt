@@ -1,22 +1,22 @@
-use Rattle.std.proofs.Common.{sym, ◌∙◌, arith}
+use Rattle.std.proofs.Common.{◌≡◌, Some, rules, tests, sym, ap, ◌∙◌}
+use Rattle.std.proofs.lemmas.Iterator.{YieldsList-from_slice}
+use Rattle.std.proofs.lemmas.Iterator.Search.{position_from_yields_List}
 use Rattle.levels.specs.Sets.{lowest}
-use Rattle.levels.proofs.Lowest.{past_none, lowest_more, lowest_found, lowest_all}
+use Rattle.levels.proofs.Lowest.{lowest_position}
 use Rattle.levels.proofs.priority.lowest_of.Goals as goal
 
-pub loop-place-init : goal.loop-place-init
-loop-place-init c = past_none (lowest c.args.set.now)
-
-pub loop-place-preserved : goal.loop-place-preserved
-loop-place-preserved c = c.loop-place.invariant ∙ lowest_more c.args.set.now c.loop-place.place (omega arith) c.if-set-place.false
-
-pub returns-then-set-place : goal.returns-then-set-place
-returns-then-set-place c = record {
-  picks = sym (c.loop-place.invariant ∙ lowest_found c.args.set.now c.loop-place.place (omega arith) c.if-set-place.true);
-  within = omega arith;
-}
+pub returns-in_err-place : goal.returns-in_err-place
+returns-in_err-place c =
+    let found : c.position.result ≡ lowest c.args.set.now =
+    position_from_yields_List (λ b. b) _ _ c.position.result c.position.ensures.ran
+    (YieldsList-from_slice c.args.set.now c.iter.ensures.rest) (λ x b q k. search (rules, tests))
+    ∙ lowest_position c.args.set.now in
+    c.from_residual.ensures ∙ sym c.in_err-place.was ∙ found
 
 pub returns : goal.returns
-returns c = record {
-  picks = sym (c.loop-place.invariant ∙ lowest_all c.args.set.now c.loop-place.place (omega arith));
-  within = tt;
-}
+returns c =
+    let found : c.position.result ≡ lowest c.args.set.now =
+    position_from_yields_List (λ b. b) _ _ c.position.result c.position.ensures.ran
+    (YieldsList-from_slice c.args.set.now c.iter.ensures.rest) (λ x b q k. search (rules, tests))
+    ∙ lowest_position c.args.set.now in
+    ap Some c.new.ensures ∙ sym c.in_ok-place.was ∙ found

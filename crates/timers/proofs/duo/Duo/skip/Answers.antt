@@ -1,10 +1,12 @@
-use Rattle.timers.proofs.Laps.{apart_times}
+use Rattle.std.proofs.Common.{sym, ap, ◌∙◌}
+use Rattle.timing.specs.Run.{times, when}
+use Rattle.timers.specs.Counts.{lowered}
+use Rattle.timers.specs.Duos.{parted}
+use Rattle.timers.proofs.Laps.{pair_times}
 use Rattle.timers.proofs.duo.Duo.skip.Goals as goal
 
-pub returns-in-Apart : goal.returns-in-Apart
-returns-in-Apart c =
-    let e = apart_times c.args.n c.in-Apart.low c.in-Apart.high c.args.self.now in
-    let is = c.in-Apart.is in
-    let low = c.skip.ensures.modulo in
-    let high = c.skip-in-Apart.ensures.modulo in
-    record { state = cc; modulo = simp is (λ i. record { low = low i; high = high i }) }
+pub returns-in-Joined-clause-state : goal.returns-in-Joined-clause-state
+returns-in-Joined-clause-state c =
+    let whole = pair_times c.args.n c.in-Joined.on c.args.self.now c.value-value.ensures.bytes.0 in
+    let count = c.skip-in-Joined.ensures.state ∙ ap (times c.args.n (when c.in-Joined.on (lowered 65536))) c.value-value.ensures.joined in
+    simp c.in-Joined.is (c.parted.ensures ∙ ap parted count ∙ sym whole)

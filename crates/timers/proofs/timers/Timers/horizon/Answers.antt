@@ -20,9 +20,9 @@ returns c =
     record {
       value = cc;
       quiet = whole_quiet m w t x y z c.min-2.result least c.wait-one.ensures.quiet
-          (simp (c.even_clock.ensures, c.even_units.ensures) at c.wait-even.ensures.quiet)
-          (simp (c.odd_clock-drive.ensures, c.odd_units.ensures) at c.wait-odd.ensures.quiet);
+          (simp (c.clock.ensures, c.even_units.ensures) at c.wait-even.ensures.quiet)
+          (simp (c.clock-drive.ensures, c.odd_units.ensures) at c.wait-odd.ensures.quiet);
       ends = whole_ends m w t x y z c.min-2.result least c.wait-one.ensures.ends
-          (simp (c.even_clock.ensures, c.even_units.ensures) at c.wait-even.ensures.ends)
-          (simp (c.odd_clock-drive.ensures, c.odd_units.ensures) at c.wait-odd.ensures.ends);
+          (simp (c.clock.ensures, c.even_units.ensures) at c.wait-even.ensures.ends)
+          (simp (c.clock-drive.ensures, c.odd_units.ensures) at c.wait-odd.ensures.ends);
     }

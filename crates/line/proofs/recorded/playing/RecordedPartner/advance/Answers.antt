@@ -1,18 +1,23 @@
-use Rattle.std.proofs.Common.{rules}
-use Rattle.line.proofs.Playing.{tape_ends, tape_stays, tape_turns}
+use Rattle.std.proofs.Common.{◌∙◌, rules}
+use Rattle.std.specs.Vec.Iter.{into_iter_items}
+use Rattle.line.proofs.Playing.{next_under_way, tape_ends, tape_stays, tape_turns}
 use Rattle.line.proofs.recorded.playing.RecordedPartner.advance.Goals as goal
 
-pub returns-then-clocks-left : goal.returns-then-clocks-left
-returns-then-clocks-left c =
-    let stays = tape_stays c.loop-left.self c.in-Some.left c.loop-left.clocks c.in-Some.ensures.clocks c.if-clocks-left.true in
+pub returns-then-clocks-wait : goal.returns-then-clocks-wait
+returns-then-clocks-wait c =
+    let at = c.loop-self in
+    let stays = tape_stays at.clocks at.self.level at.self.left (into_iter_items at.self.waits) _ _ c.in-Some.is (c.from-wait.ensures ∙ c.max.ensures) c.if-clocks-wait.true in
     search rules
 
-pub loop-left-preserved : goal.loop-left-preserved
-loop-left-preserved c =
-    let turns = tape_turns c.loop-left.self c.in-Some.left c.loop-left.clocks c.in-Some.ensures.clocks c.if-clocks-left.false in
+pub loop-self-preserved : goal.loop-self-preserved
+loop-self-preserved c =
+    let at = c.loop-self in
+    let next = next_under_way c.next-self.result at.self.waits c.next-self.new.self at.self.waits.rest.ok.0 c.next-self.ensures.cases in
+    let turns = tape_turns at.clocks at.self.level at.self.left (into_iter_items at.self.waits) _ _ c.in-Some.is (c.from-wait.ensures ∙ c.max.ensures) _ next c.if-clocks-wait.false in
     search rules
 
 pub returns : goal.returns
 returns c =
-    let ends = tape_ends c.loop-left.self c.loop-left.clocks c.in_default.ensures.clocks in
+    let at = c.loop-self in
+    let ends = tape_ends at.clocks at.self.level at.self.left (into_iter_items at.self.waits) c.in_default.is in
     search rules

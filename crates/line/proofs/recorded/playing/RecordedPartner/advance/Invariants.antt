@@ -1,10 +1,10 @@
-use Rattle.std.proofs.Common.{◌≡◌, ◌-◌, vec_len}
+use Rattle.std.proofs.Common.{◌≡◌, length}
 use Rattle.line.specs.Meaning.{elapsed}
-use Rattle.line.specs.Plays.{tape}
+use Rattle.line.specs.Plays.{tape, to_come}
 use Rattle.line.proofs.recorded.playing.RecordedPartner.advance.Given as goal
 
-abbrev pub invariant-loop-left : goal.invariant-loop-left
-invariant-loop-left l = elapsed l.clocks (tape l.self) ≡ elapsed l.initial.clocks (tape l.initial.self)
+abbrev pub invariant-loop-self : goal.invariant-loop-self
+invariant-loop-self l = elapsed l.clocks (tape l.self) ≡ elapsed l.initial.clocks (tape l.initial.self)
 
-abbrev pub decreases-loop-left : goal.decreases-loop-left
-decreases-loop-left l = vec_len l.self.waits - l.self.place
+abbrev pub decreases-loop-self : goal.decreases-loop-self
+decreases-loop-self l = length (to_come l.self)
