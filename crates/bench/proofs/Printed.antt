@@ -10,15 +10,11 @@ use Rattle.registers.specs.declared.refusal.Refusal.{Refusal}
 use Rattle.board.specs.Perform.{State}
 use Rattle.board.specs.Histories.{ran}
 use Rattle.bench.specs.Operations.{calls_of, last_listed, line_of}
-use Rattle.bench.specs.Scripts.{item_calls, item_prints, last_line, line_calls, line_prints}
+use Rattle.bench.specs.Scripts.{item_prints, last_line, said_prints}
 
-module _ (number : ℕ) (line : List ℕ) (s : State) (h : number ≤ last_line) (said : Result Content Fault) (e : said ≡ parsed line) where
-  -- a line within the script prints and leaves what its item does
-  pub prints : item_prints number said s ≡ line_prints number line s
-  prints = ap (λ b. cond b None (item_prints number said s)) (sym (le-ltb last_line number h)) ∙ ap (λ p. cond (ltb last_line number) None (item_prints number p s)) e
-
-  pub leaves : ran (item_calls said s) s ≡ ran (line_calls number line s) s
-  leaves = ap (λ b. ran (cond b [] (item_calls said s)) s) (sym (le-ltb last_line number h)) ∙ ap (λ p. ran (cond (ltb last_line number) [] (item_calls p s)) s) e
+-- a line within the script prints what it says
+pub within : {said means : Result Content Fault} (number : ℕ) (s : State) → number ≤ last_line → said ≡ means → item_prints number means s ≡ said_prints number said s
+within {said} {means} number s h e = ap (λ b. cond b None (item_prints number means s)) (sym (le-ltb last_line number h)) ∙ ap (λ x. said_prints number x s) (sym e)
 
 pub step_prints : (number : ℕ) (operation : Operation) (s t : State) (answer : Result ℕ Refusal) (clock : ℕ) (l : Line) (out : List ℕ)
     → answer ≡ last_listed (calls_of operation s) s → t ≡ ran (calls_of operation s) s → clock ≡ t.board.clock → l ≡ line_of number answer clock → out ≡ layout l

@@ -23,12 +23,19 @@ item_prints number (Err fault) s = Some (layout (fault_line number fault.column)
 abbrev pub last_line : ℕ
 last_line = 99999
 
--- a line past the last one is not run
+-- a line past the last one is not run, whatever it says
+abbrev pub said_calls : ℕ → Result Content Fault → State → List Call
+said_calls number said s = cond (nat_lt last_line number) [] (item_calls said s)
+
+abbrev pub said_prints : ℕ → Result Content Fault → State → Option (List ℕ)
+said_prints number said s = cond (nat_lt last_line number) None (item_prints number said s)
+
+-- the calls that a line makes, and what it prints
 abbrev pub line_calls : ℕ → List ℕ → State → List Call
-line_calls number line s = cond (nat_lt last_line number) [] (item_calls (parsed line) s)
+line_calls number line s = said_calls number (parsed line) s
 
 abbrev pub line_prints : ℕ → List ℕ → State → Option (List ℕ)
-line_prints number line s = cond (nat_lt last_line number) None (item_prints number (parsed line) s)
+line_prints number line s = said_prints number (parsed line) s
 
 -- a line runs and prints as the bytes kept of it do
 pub record RunsAlike (number : ℕ) (line kept : List ℕ) (s : State) : Type 0 where

@@ -1,21 +1,21 @@
 // Running a script line by line.
 ghost use Rattle.std.specs.Prelude.{◌≡◌, ◌^◌, ◌<◌, ◌≤◌, Ok};
-ghost use Rattle.recorder.specs.Recording.{Extended};
+ghost use Rattle.marks.specs.Both.{BothExtended};
 ghost use Rattle.line.specs.LastHeard.{plug};
-ghost use Rattle.script.specs.Lines.{item_content};
+ghost use Rattle.script.specs.Lines.{content};
 ghost use Rattle.board.specs.Perform.{state};
 ghost use Rattle.board.specs.Histories.{ran};
 ghost use Rattle.board.specs.Cuts.{CutDoesNotShow};
 ghost use Rattle.board.specs.ServiceStack.{ServiceIsAStack};
 ghost use Rattle.board.specs.Draining.{RequestsDrain};
 ghost use Rattle.bench.specs.Operations.{line_of, fault_line};
-ghost use Rattle.bench.specs.Scripts.{item_calls, item_prints, line_calls, line_prints, StartRuns, ScriptIsAHistory, ScriptAnswers};
+ghost use Rattle.bench.specs.Scripts.{said_calls, said_prints, line_calls, line_prints, StartRuns, ScriptIsAHistory, ScriptAnswers};
 
 use crate::operations::operate;
-use board::{Board, ServiceMark, WireMark};
+use board::Board;
 use line::Loopback;
 use listing::{Line, Verdict, write_line};
-use recorder::Recorder;
+use marks::Recorders;
 use registers::refusal::Refusal;
 use script::{Fault, Item, parse};
 
@@ -54,43 +54,18 @@ fn fault_line(number: u32, fault: Fault) -> Line
     }
 }
 
-// Runs an item of a script; a note does nothing and lists nothing.
-fn run_item(
-    board: &mut Board<Loopback>,
-    wires: &mut Recorder<'_, WireMark>,
-    services: &mut Recorder<'_, ServiceMark>,
-    number: u32,
-    item: Item<'_>,
-) -> Option<[u8; 29]>
-    requires { number ≤ 99999 }
-    ensures prints { result ≡ item_prints number (Ok (item_content item.entry)) (state plug board.old.inner wires.old services.old) }
-    ensures state { state plug board.new.inner wires.new services.new ≡ ran (item_calls (Ok (item_content item.entry)) (state plug board.old.inner wires.old services.old)) (state plug board.old.inner wires.old services.old) }
-    ensures wires { Extended wires.old wires.new }
-    ensures services { Extended services.old services.new }
-{
-    match item {
-        Item::Note(_) => None,
-        Item::Step(operation) => {
-            let answer = operate(board, wires, services, operation);
-            Some(write_line(&line_of(number, answer, board.clock())))
-        }
-    }
-}
-
 // Runs one line of a script, counted from 1, and gives what is listed of it. A line past the last is not run. Of a long
 // line its first 81 bytes are enough.
 // The lines of a script make a history of the board, so all that holds over histories holds of it.
 pub fn run_line(
     board: &mut Board<Loopback>,
-    wires: &mut Recorder<'_, WireMark>,
-    services: &mut Recorder<'_, ServiceMark>,
+    recorders: &mut Recorders<'_>,
     number: u32,
     line: &[u8],
 ) -> Option<[u8; 29]>
-    ensures prints { result ≡ line_prints number line.now (state plug board.old.inner wires.old services.old) }
-    ensures state { state plug board.new.inner wires.new services.new ≡ ran (line_calls number line.now (state plug board.old.inner wires.old services.old)) (state plug board.old.inner wires.old services.old) }
-    ensures wires { Extended wires.old wires.new }
-    ensures services { Extended services.old services.new }
+    ensures prints { result ≡ line_prints number line.now (state plug board.old recorders.old) }
+    ensures state { state plug board.new recorders.new ≡ ran (line_calls number line.now (state plug board.old recorders.old)) (state plug board.old recorders.old) }
+    ensures room { BothExtended recorders.old recorders.new }
     ensures start { StartRuns }
     ensures script { ScriptIsAHistory }
     ensures answers { ScriptAnswers }
@@ -98,26 +73,29 @@ pub fn run_line(
     ensures service { ServiceIsAStack }
     ensures draining { RequestsDrain }
 {
-    run_numbered(board, wires, services, number, line)
+    run_said(board, recorders, number, parse(line))
 }
 
-fn run_numbered(
+// Runs what a line says; a note does nothing and lists nothing.
+fn run_said(
     board: &mut Board<Loopback>,
-    wires: &mut Recorder<'_, WireMark>,
-    services: &mut Recorder<'_, ServiceMark>,
+    recorders: &mut Recorders<'_>,
     number: u32,
-    line: &[u8],
+    said: Result<Item<'_>, Fault>,
 ) -> Option<[u8; 29]>
-    ensures prints { result ≡ line_prints number line.now (state plug board.old.inner wires.old services.old) }
-    ensures state { state plug board.new.inner wires.new services.new ≡ ran (line_calls number line.now (state plug board.old.inner wires.old services.old)) (state plug board.old.inner wires.old services.old) }
-    ensures wires { Extended wires.old wires.new }
-    ensures services { Extended services.old services.new }
+    ensures prints { result ≡ said_prints number (content said.entry) (state plug board.old recorders.old) }
+    ensures state { state plug board.new recorders.new ≡ ran (said_calls number (content said.entry) (state plug board.old recorders.old)) (state plug board.old recorders.old) }
+    ensures room { BothExtended recorders.old recorders.new }
 {
     if number > LAST_LINE {
         return None;
     }
-    match parse(line) {
-        Ok(item) => run_item(board, wires, services, number, item),
+    match said {
+        Ok(Item::Note(_)) => None,
+        Ok(Item::Step(operation)) => {
+            let answer = operate(board, recorders, operation);
+            Some(write_line(&line_of(number, answer, board.clock())))
+        }
         Err(fault) => Some(write_line(&fault_line(number, fault))),
     }
 }

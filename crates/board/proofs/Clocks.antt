@@ -12,9 +12,9 @@ use Rattle.muart.specs.Serial.{txd_level, rxd_set, form_in}
 use Rattle.serial.specs.Receiving.{fallen}
 use Rattle.muart.specs.Clock.{clocked, Still}
 use Rattle.muart.proofs.Jumping.{still_txd, still_int, still_rxd}
-use Rattle.board.specs.declared.marks.WireMark.{WireMark}
-use Rattle.board.specs.declared.marks.Lines.{Lines}
-use Rattle.board.specs.Marks.{differ, changes}
+use Rattle.marks.specs.declared.wires.WireMark.{WireMark}
+use Rattle.marks.specs.declared.wires.Lines.{Lines}
+use Rattle.marks.specs.Marks.{differ, changes}
 use Rattle.board.specs.Views.{View, lines_of, with_unit, joined, settled, stirred, clock_once, marks_between, span_marks}
 
 pub same_differ : (a b : Bool) → a ≡ b → differ a b ≡ false

@@ -12,7 +12,7 @@ use Rattle.registers.specs.declared.pins.Pin.{Pin}
 use Rattle.muart.specs.Writing.{write_answer}
 use Rattle.muart.specs.Pulses.{pulse_level, second_answer}
 use Rattle.muart.specs.PinCalls.{pin_tested}
-use Rattle.board.specs.declared.marks.ServiceMark.{ServiceMark}
+use Rattle.marks.specs.declared.services.ServiceMark.{ServiceMark}
 use Rattle.board.specs.Views.{View, lines_of, clock_once, span_marks}
 use Rattle.board.specs.Perform.{Call, read, write, pulse, first_pulse, second_pulse, pin, span, look, snapshot, reset, Answer, byte_answer, plain_answer, answered, State, after, start, ended, end_marks, strobe_of, read_result, read_effect, read_service, write_result, store_effect, write_effect, write_service, pulse_result, pulse_effect, first_effect, second_effect, pulse_service, pin_effect, span_result, spanned, spanned_marks}
 use Rattle.board.specs.Histories.{ran, answers}

@@ -1,5 +1,4 @@
 pub mod Clocks
-mod ClosedMarks
 pub mod Cutting
 pub mod SingleCalls
 pub mod Stacking

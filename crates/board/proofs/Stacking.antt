@@ -31,9 +31,9 @@ use Rattle.muart.specs.Clock.{timer_step, divide_in, timed, rate_modulus, rated,
 use Rattle.muart.specs.State.{with_pins, with_receiver, with_steps, with_remainder, with_prescaler, with_service}
 use Rattle.muart.specs.PinCalls.{set_outside, counts_two, counts_three, calls_one, triggers, rise, fall, pin_set, pin_tested}
 use Rattle.muart.specs.Writing.{no_level, was_reset, with_control, controlled, left_receiving, left_in_service, clears_nie, resets, lawful, stored, closed_by}
-use Rattle.board.specs.declared.marks.ServiceMark.{ServiceMark}
-use Rattle.board.specs.declared.marks.ServiceMark.TheVariants.{Taken, Passed, Closed}
-use Rattle.board.specs.Marks.{taken_marks, closed_from, closed_marks}
+use Rattle.marks.specs.declared.services.ServiceMark.{ServiceMark}
+use Rattle.marks.specs.declared.services.ServiceMark.TheVariants.{Taken, Passed, Closed}
+use Rattle.marks.specs.Marks.{taken_marks, closed_from, closed_marks}
 use Rattle.board.specs.Views.{View, with_unit, settled, stirred, clock_once}
 use Rattle.board.specs.Perform.{Call, read, write, pulse, first_pulse, second_pulse, pin, span, look, snapshot, reset, State, strobe_of, read_service, read_effect, write_service, write_result, store_effect, write_effect, pulse_service, pulse_effect, first_effect, second_effect, pin_effect, span_result, spanned, ended, view_after, service_marks, after, start}
 use Rattle.board.specs.Histories.{ran, service_made}

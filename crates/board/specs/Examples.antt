@@ -4,9 +4,9 @@ use Rattle.levels.specs.Sets.{levels}
 use Rattle.line.specs.LastHeard.{last_heard}
 use Rattle.registers.specs.declared.latch.Latched.{Latched}
 use Rattle.muart.specs.Serial.{txd_level}
-use Rattle.board.specs.declared.marks.Line.TheVariants.{TxD, RxD}
-use Rattle.board.specs.declared.marks.WireMark.{WireMark}
-use Rattle.board.specs.declared.marks.ServiceMark.TheVariants.{Taken, Closed}
+use Rattle.marks.specs.declared.wires.Line.TheVariants.{TxD, RxD}
+use Rattle.marks.specs.declared.wires.WireMark.{WireMark}
+use Rattle.marks.specs.declared.services.ServiceMark.TheVariants.{Taken, Closed}
 use Rattle.board.specs.Perform.{Call, read, write, pulse, first_pulse, second_pulse, pin, span, done, byte, State, start}
 use Rattle.board.specs.Histories.{ran, answers}
 use Rattle.board.specs.ServiceStack.{in_service}

@@ -1,6 +1,6 @@
 -- Histories: the calls made of a board since power-up, in order, with their arguments, refused ones too.
 use Rattle.std.specs.Prelude.{List, [], ◌∷◌, ◌++◌}
-use Rattle.board.specs.declared.marks.ServiceMark.{ServiceMark}
+use Rattle.marks.specs.declared.services.ServiceMark.{ServiceMark}
 use Rattle.board.specs.Perform.{Call, Answer, State, after, answered, service_marks}
 
 -- where a history leaves a board

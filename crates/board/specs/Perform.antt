@@ -4,8 +4,7 @@ use Rattle.timing.specs.Run.{times}
 use Rattle.timers.specs.Access.{counts_of}
 use Rattle.line.specs.Meaning.{Meaning, shown}
 use Rattle.recorder.specs.Recording.{Recording, recording, empty, all_marked}
-use Rattle.recorder.specs.declared.recorder.Recorder.{Recorder}
-use Rattle.board.specs.declared.inner.Inner.{Inner}
+use Rattle.marks.specs.declared.recorders.Recorders.{Recorders}
 use Rattle.registers.specs.declared.refusal.Refusal.{Refusal}
 use Rattle.registers.specs.declared.refusal.Refusal.TheVariants.{SpanTooLong, ClockPastEnd}
 use Rattle.registers.specs.declared.register.Register.{Register}
@@ -21,10 +20,10 @@ use Rattle.muart.specs.PinCalls.{pin_tested, pin_set}
 use Rattle.muart.specs.Looks.{look_answer, look_writes}
 use Rattle.muart.specs.Serial.{txd_level}
 use Rattle.muart.specs.State.{with_sensitive}
-use Rattle.board.specs.declared.marks.WireMark.{WireMark}
-use Rattle.board.specs.declared.marks.ServiceMark.{ServiceMark}
-use Rattle.board.specs.Marks.{taken_marks, closed_marks}
-use Rattle.board.specs.Views.{View, view, with_unit, settled, clock_once, marks_between, span_marks, last_clock}
+use Rattle.marks.specs.declared.wires.WireMark.{WireMark}
+use Rattle.marks.specs.declared.services.ServiceMark.{ServiceMark}
+use Rattle.marks.specs.Marks.{taken_marks, closed_marks}
+use Rattle.board.specs.Views.{Parts, View, view, with_unit, settled, clock_once, marks_between, span_marks, last_clock}
 
 -- the calls of a board; a look is given its place as it stands
 pub data Call : Type 0 where
@@ -227,8 +226,8 @@ abbrev pub start : Meaning → ℕ → ℕ → State
 start m wires services = record { board = started m; wires = empty wires; services = empty services }
 
 -- a board and its recorders as the rule sees them
-abbrev pub state : {P : Type 0} → (P → Meaning) → Inner P → Recorder WireMark → Recorder ServiceMark → State
-state meaning b wires services = record { board = view meaning b; wires = recording wires; services = recording services }
+abbrev pub state : {P : Type 0} → (P → Meaning) → Parts P → Recorders → State
+state meaning b recorders = record { board = view meaning b; wires = recording recorders.wires; services = recording recorders.services }
 
 -- a board beside recorders that a call is not given
 abbrev pub beside : Recording WireMark → Recording ServiceMark → View → State

@@ -2,8 +2,8 @@
 use Rattle.std.specs.Prelude.{◌≡◌, ℕ, ◌≤◌, Bool, true, false, cond, ◌⊎◌, List, [], ◌∷◌, length, Some, None, Option, ◌==◌, slice_index_or}
 use Rattle.levels.specs.Sets.{levels}
 use Rattle.line.specs.Meaning.{Meaning}
-use Rattle.board.specs.declared.marks.ServiceMark.{ServiceMark}
-use Rattle.board.specs.declared.marks.ServiceMark.TheVariants.{Taken, Passed, Closed}
+use Rattle.marks.specs.declared.services.ServiceMark.{ServiceMark}
+use Rattle.marks.specs.declared.services.ServiceMark.TheVariants.{Taken, Passed, Closed}
 use Rattle.board.specs.Perform.{Call, State, start}
 use Rattle.board.specs.Histories.{ran, service_made}
 

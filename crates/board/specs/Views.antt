@@ -6,10 +6,18 @@ use Rattle.muart.specs.Bounds.{Sound}
 use Rattle.muart.specs.Reading.{int_high}
 use Rattle.muart.specs.Serial.{txd_level, rxd_set}
 use Rattle.muart.specs.Clock.{clocked}
-use Rattle.board.specs.declared.marks.WireMark.{WireMark}
-use Rattle.board.specs.declared.marks.Lines.{Lines}
-use Rattle.board.specs.declared.inner.Inner.{Inner}
-use Rattle.board.specs.Marks.{differ, changes}
+use Rattle.marks.specs.declared.wires.WireMark.{WireMark}
+use Rattle.marks.specs.declared.wires.Lines.{Lines}
+use Rattle.marks.specs.Marks.{differ, changes}
+
+-- what a board is made of: the stand-in, a partner of some kind and the clock number
+pub record Parts (P : Type 0) : Type 0 where
+  pub unit : StandIn
+  pub partner : P
+  pub clock : ℕ
+
+abbrev pub parts : {P : Type 0} → StandIn → P → ℕ → Parts P
+parts u p c = record { unit = u; partner = p; clock = c }
 
 -- the stand-in, the partner's meaning and the clock number
 pub record View : Type 0 where
@@ -17,7 +25,7 @@ pub record View : Type 0 where
   pub partner : Meaning
   pub clock : ℕ
 
-abbrev pub view : {P : Type 0} → (P → Meaning) → Inner P → View
+abbrev pub view : {P : Type 0} → (P → Meaning) → Parts P → View
 view meaning b = record { unit = b.unit; partner = meaning b.partner; clock = b.clock }
 
 abbrev pub with_unit : StandIn → View → View
@@ -63,6 +71,6 @@ abbrev pub last_clock : ℕ
 last_clock = 500000000000000
 
 -- what holds of every board
-pub record Bounds {P : Type 0} (b : Inner P) : Type 0 where
+pub record Bounds {P : Type 0} (b : Parts P) : Type 0 where
   pub sound : Sound b.unit
   pub within : b.clock ≤ last_clock

@@ -2,12 +2,6 @@
 
 #![tactic(auto)]
 
-mod calls;
-mod inner;
-mod inner_calls;
-mod marks;
-mod running;
-mod sealed;
+mod board;
 
-pub use marks::{Line, ServiceMark, WireMark};
-pub use sealed::Board;
+pub use board::Board;

@@ -4,9 +4,9 @@
 
 #[cfg(test)]
 mod tests {
-    use board::{Board, ServiceMark, WireMark};
+    use board::Board;
     use line::Loopback;
-    use recorder::Recorder;
+    use marks::Recorders;
     use registers::latch::Latched;
     use registers::refusal::Refusal;
     use std::test::Fail;
@@ -19,52 +19,44 @@ mod tests {
     }
 
     // The 8086 family, IAE set, level 2 enabled and EXTINT high.
-    fn interrupting(
-        board: &mut Board<Loopback>,
-        wires: &mut Recorder<'_, WireMark>,
-        services: &mut Recorder<'_, ServiceMark>,
-    ) {
-        let _ = board.write(Latched::new(0, true), 2, wires, services);
-        let _ = board.write(Latched::new(4, true), 0xA0, wires, services);
-        let _ = board.write(Latched::new(10, true), 4, wires, services);
-        let _ = board.set_pin(17, true, wires, services);
+    fn interrupting(board: &mut Board<Loopback>, recorders: &mut Recorders<'_>) {
+        let _ = board.write(Latched::new(0, true), 2, recorders);
+        let _ = board.write(Latched::new(4, true), 0xA0, recorders);
+        let _ = board.write(Latched::new(10, true), 4, recorders);
+        let _ = board.set_pin(17, true, recorders);
     }
 
     #[test]
     fn a_begun_acknowledge_refuses_another(rt: HostRuntime) -> Result<(), Fail> {
-        let mut no_wires: [WireMark; 0] = [];
-        let mut no_services: [ServiceMark; 0] = [];
-        let mut wires = Recorder::new(&mut no_wires);
-        let mut services = Recorder::new(&mut no_services);
+        let mut no_wires = [];
+        let mut no_services = [];
+        let mut recorders = Recorders::new(&mut no_wires, &mut no_services);
         let mut board = Board::power_up(Loopback::new());
-        interrupting(&mut board, &mut wires, &mut services);
-        let Ok(half) = board.begin_acknowledge(&mut wires, &mut services) else {
+        interrupting(&mut board, &mut recorders);
+        let Ok(half) = board.begin_acknowledge(&mut recorders) else {
             return Err(Fail::new("the first pulse is refused"));
         };
-        let answer = match board.begin_acknowledge(&mut wires, &mut services) {
-            Ok(other) => number_of(board.finish_acknowledge(other, &mut wires, &mut services)),
+        let answer = match board.begin_acknowledge(&mut recorders) {
+            Ok(other) => number_of(board.finish_acknowledge(other, &mut recorders)),
             Err(refusal) => refusal.number(),
         };
-        let finished = board
-            .finish_acknowledge(half, &mut wires, &mut services)
-            .unwrap_or(0);
+        let finished = board.finish_acknowledge(half, &mut recorders).unwrap_or(0);
         assert!(rt; answer == 7 && finished == 66);
         Ok(())
     }
 
     #[test]
     fn a_reset_forgets_a_begun_acknowledge(rt: HostRuntime) -> Result<(), Fail> {
-        let mut no_wires: [WireMark; 0] = [];
-        let mut no_services: [ServiceMark; 0] = [];
-        let mut wires = Recorder::new(&mut no_wires);
-        let mut services = Recorder::new(&mut no_services);
+        let mut no_wires = [];
+        let mut no_services = [];
+        let mut recorders = Recorders::new(&mut no_wires, &mut no_services);
         let mut board = Board::power_up(Loopback::new());
-        interrupting(&mut board, &mut wires, &mut services);
-        let Ok(half) = board.begin_acknowledge(&mut wires, &mut services) else {
+        interrupting(&mut board, &mut recorders);
+        let Ok(half) = board.begin_acknowledge(&mut recorders) else {
             return Err(Fail::new("the first pulse is refused"));
         };
-        board.reset(&mut wires, &mut services);
-        assert!(rt; number_of(board.finish_acknowledge(half, &mut wires, &mut services)) == 8);
+        board.reset(&mut recorders);
+        assert!(rt; number_of(board.finish_acknowledge(half, &mut recorders)) == 8);
         Ok(())
     }
 
@@ -79,34 +71,30 @@ mod tests {
 
     #[test]
     fn an_unselected_chip_is_refused(rt: HostRuntime) {
-        let mut no_wires: [WireMark; 0] = [];
-        let mut no_services: [ServiceMark; 0] = [];
-        let mut wires = Recorder::new(&mut no_wires);
-        let mut services = Recorder::new(&mut no_services);
+        let mut no_wires = [];
+        let mut no_services = [];
+        let mut recorders = Recorders::new(&mut no_wires, &mut no_services);
         let mut board = Board::power_up(Loopback::new());
-        let answer = number_of(board.read(Latched::new(0, false), &mut wires, &mut services));
+        let answer = number_of(board.read(Latched::new(0, false), &mut recorders));
         assert!(rt; answer == 2);
     }
 
     #[test]
     fn a_kept_half_answers_the_newer_level(rt: HostRuntime) -> Result<(), Fail> {
-        let mut no_wires: [WireMark; 0] = [];
-        let mut no_services: [ServiceMark; 0] = [];
-        let mut wires = Recorder::new(&mut no_wires);
-        let mut services = Recorder::new(&mut no_services);
+        let mut no_wires = [];
+        let mut no_services = [];
+        let mut recorders = Recorders::new(&mut no_wires, &mut no_services);
         let mut board = Board::power_up(Loopback::new());
-        interrupting(&mut board, &mut wires, &mut services);
-        let Ok(kept) = board.begin_acknowledge(&mut wires, &mut services) else {
+        interrupting(&mut board, &mut recorders);
+        let Ok(kept) = board.begin_acknowledge(&mut recorders) else {
             return Err(Fail::new("the first pulse is refused"));
         };
-        board.reset(&mut wires, &mut services);
-        interrupting(&mut board, &mut wires, &mut services);
-        let newer = board.begin_acknowledge(&mut wires, &mut services);
-        let answer = board
-            .finish_acknowledge(kept, &mut wires, &mut services)
-            .unwrap_or(0);
+        board.reset(&mut recorders);
+        interrupting(&mut board, &mut recorders);
+        let newer = board.begin_acknowledge(&mut recorders);
+        let answer = board.finish_acknowledge(kept, &mut recorders).unwrap_or(0);
         let refused = match newer {
-            Ok(half) => number_of(board.finish_acknowledge(half, &mut wires, &mut services)),
+            Ok(half) => number_of(board.finish_acknowledge(half, &mut recorders)),
             Err(_) => 0,
         };
         assert!(rt; answer == 66 && refused == 8);
@@ -125,17 +113,16 @@ mod tests {
     // Spans of the longest length bring the clock number to its end; one clock more is refused.
     #[test]
     fn the_clock_number_ends(rt: HostRuntime) {
-        let mut no_wires: [WireMark; 0] = [];
-        let mut no_services: [ServiceMark; 0] = [];
-        let mut wires = Recorder::new(&mut no_wires);
-        let mut services = Recorder::new(&mut no_services);
+        let mut no_wires = [];
+        let mut no_services = [];
+        let mut recorders = Recorders::new(&mut no_wires, &mut no_services);
         let mut board = Board::power_up(Loopback::new());
         for _ in 0..29_802_322u32 {
-            let _ = board.span(16_777_216, &mut wires, &mut services);
+            let _ = board.span(16_777_216, &mut recorders);
         }
-        let early = number_of(board.span(6_504_449, &mut wires, &mut services));
-        let last = number_of(board.span(6_504_448, &mut wires, &mut services));
-        let past = number_of(board.span(1, &mut wires, &mut services));
+        let early = number_of(board.span(6_504_449, &mut recorders));
+        let last = number_of(board.span(6_504_448, &mut recorders));
+        let past = number_of(board.span(1, &mut recorders));
         assert!(rt; early == 10 && last == 0 && past == 10);
         assert!(rt; board.clock() == 500_000_000_000_000);
     }

@@ -1,7 +1,7 @@
--- The lowest place of a set: how a search from the front finds it, and that it stands within the set.
-use Rattle.std.proofs.Common.{◌≡◌, ℕ, suc, ◌<◌, Bool, true, false, cond, List, [], ◌∷◌, map, length, Some, None, Option, refl, sym, ap, ◌∙◌, ◌+◌, nat_lt, nat_le, arith}
+-- The lowest place of a set as a position, the lowest below another set, and that the set places stand within the set.
+use Rattle.std.proofs.Common.{◌≡◌, ℕ, suc, ◌<◌, Bool, true, false, cond, List, [], ◌∷◌, map, length, Some, None, Option, refl, ap, ◌∙◌, nat_le, arith}
 use Rattle.std.specs.Option.{option_map}
-use Rattle.std.specs.List.{AllByRecursion, position, position_or_len}
+use Rattle.std.specs.List.{AllByRecursion, position}
 use Rattle.std.proofs.lemmas.Bool.Decides.{nat_tests}
 use Rattle.std.proofs.ByRecursion.{All-map, All-weaker}
 use Rattle.levels.specs.Sets.{lowest, levels, below}

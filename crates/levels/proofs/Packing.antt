@@ -1,6 +1,5 @@
 -- A byte and its eight bits say the same.
-use Rattle.std.proofs.Common.{◌≡◌, ℕ, zero, suc, ◌+◌, ◌*◌, ◌/◌, ◌%◌, ◌^◌, ◌<◌, Bool, true, false, cond, List, [], ◌∷◌, length, get_or, drop, sym, refl, ap, ◌∙◌, pow-suc, arith}
-use Rattle.std.proofs.Common.{map, ◌==◌, ◌≤◌, subst, rules, add-one}
+use Rattle.std.proofs.Common.{◌≡◌, ℕ, zero, suc, ◌+◌, ◌*◌, ◌/◌, ◌%◌, ◌^◌, ◌<◌, Bool, true, false, cond, List, [], ◌∷◌, length, get_or, drop, sym, refl, ap, ◌∙◌, pow-suc, arith, map, ◌==◌, ◌≤◌, subst, rules, add-one}
 use Rattle.std.specs.List.{range_with_len}
 use native.Mathlib.Nat.{div-div-eq-div-mul}
 use Rattle.std.proofs.lemmas.List.{at_drop_more, at_drop_all}
@@ -55,9 +54,9 @@ weighs true w n = grind (arith, rules)
 weighs false w n = grind (arith, rules)
 
 -- what the places from i on weigh, one place further
-byte_more : (s : List Bool) (i : ℕ) → i < length s
+place_more : (s : List Bool) (i : ℕ) → i < length s
     → 2 ^ i * byte (drop i s) ≡ cond (get_or s i false) (2 ^ i) 0 + 2 ^ (i + 1) * byte (drop (i + 1) s)
-byte_more s i h =
+place_more s i h =
     ap (λ n. 2 ^ i * n) (at_drop_more byte s i false h)
     ∙ weighs (get_or s i false) (2 ^ i) (byte (drop (i + 1) s))
     ∙ ap (λ w. cond (get_or s i false) (2 ^ i) 0 + w * byte (drop (i + 1) s)) (grind (arith, pow-suc 2 i, add-one))
@@ -68,7 +67,7 @@ adds_none s = omega arith
 
 pub adds_more : (s : List Bool) (i b v : ℕ) → i < length s → b + 2 ^ i * byte (drop i s) ≡ byte s
     → v ≡ cond (get_or s i false) (2 ^ i) 0 → b + v + 2 ^ (i + 1) * byte (drop (i + 1) s) ≡ byte s
-adds_more s i b v h e k = omega (arith, byte_more s i h)
+adds_more s i b v h e k = omega (arith, place_more s i h)
 
 pub adds_all : (s : List Bool) (i b : ℕ) → length s ≤ i → b + 2 ^ i * byte (drop i s) ≡ byte s → b ≡ byte s
 adds_all s i b h e = let none = at_drop_all byte s i h in grind (arith, rules)

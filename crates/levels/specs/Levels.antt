@@ -1,5 +1,5 @@
 -- The interrupt levels: which one requests, which one is ready, and what taking and closing one changes.
-use Rattle.std.specs.Prelude.{◌≡◌, ℕ, ◌<◌, Bool, true, false, cond, not, ◌&&◌, List, [], ◌∷◌, Some, None, Option, slice_index_or, slice_set}
+use Rattle.std.specs.Prelude.{◌≡◌, ℕ, Bool, true, false, cond, not, ◌&&◌, List, [], ◌∷◌, Some, None, Option, slice_index_or, slice_set}
 use Rattle.levels.specs.declared.pending.Pending.{Pending}
 use Rattle.levels.specs.Sets.{lowest, levels, below}
 
@@ -30,11 +30,6 @@ request level mask requests = cond (slice_index_or mask level false) (slice_set 
 -- a request that is to be recorded, of an enabled level that does not request yet
 abbrev pub fresh : Bool → ℕ → List Bool → List Bool → Bool
 fresh on level mask requests = on && (slice_index_or mask level false && not (slice_index_or requests level false))
-
--- there are eight levels
-abbrev pub Within : Option ℕ → Type 0
-Within None = Unit {0}
-Within (Some l) = l < 8
 
 -- service is a stack: the level put in service stands before those that were
 abbrev pub Opened : Option ℕ → List Bool → Type 0

@@ -4,8 +4,8 @@ ghost use Rattle.levels.specs.Sets.{lowest, levels, ended};
 ghost use Rattle.std.specs.List.{AllByRecursion};
 ghost use Rattle.levels.specs.Levels.{Closed};
 
+use crate::Level;
 use crate::priority::lowest_of;
-use bits::Place as Level;
 use std::mem;
 
 // END closes the lowest level in service, if any.

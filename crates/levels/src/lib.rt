@@ -8,9 +8,11 @@ mod masks;
 mod pending;
 mod priority;
 
-pub use bits::Place as Level;
 pub use bytes::{byte_of, flags_of};
 pub use closing::{close_all, end};
 pub use masks::{clear_if, difference, disable, enable, request_if};
 pub use pending::Pending;
 pub use priority::{ready, requesting};
+
+/// A level is one of the eight places of a set, so its number is below 8.
+pub use bits::Place as Level;

@@ -4,11 +4,12 @@ ghost use Rattle.levels.specs.Bytes.{flags};
 ghost use Rattle.levels.specs.Sets.{union, minus};
 ghost use Rattle.levels.specs.Levels.{request, fresh};
 
+use crate::Level;
 use crate::bytes::flags_of;
-use bits::Place as Level;
 use std::array;
 
 // A request is recorded if its level is enabled; nothing changes where it is recorded already.
+#[tactic(auto, using(crate::proofs::Recording::set_same))]
 pub fn request_if(requests: &mut [bool; 8], mask: &[bool; 8], level: Level, on: bool)
     ensures after { requests.new ≡ (if on then request level mask.now requests.old else requests.old) }
     ensures kept { fresh on level mask.now requests.old ≡ false → requests.new ≡ requests.old }
@@ -20,6 +21,7 @@ pub fn request_if(requests: &mut [bool; 8], mask: &[bool; 8], level: Level, on: 
 }
 
 // A level that disables itself; nothing changes where it is disabled already.
+#[tactic(auto, using(crate::proofs::Recording::set_same))]
 pub fn clear_if(mask: &mut [bool; 8], level: Level, on: bool)
     ensures after { mask.new ≡ (if on then put mask.old level false else mask.old) }
     ensures kept { (on && slice_index_or mask.old level false) ≡ false → mask.new ≡ mask.old }

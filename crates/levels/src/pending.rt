@@ -2,8 +2,8 @@
 ghost use Rattle.std.specs.Prelude.{◌≡◌, true, false, replicate};
 ghost use Rattle.levels.specs.Levels.{due, taken, Opened};
 
+use crate::Level;
 use crate::priority::{ready, requesting};
-use bits::Place as Level;
 
 #[derive(Clone, Copy)]
 pub struct Pending {

@@ -3,7 +3,7 @@ ghost use Rattle.std.specs.Prelude.{◌≡◌};
 ghost use Rattle.levels.specs.Sets.{lowest, below};
 ghost use Rattle.levels.specs.Levels.{requesting as requests_of, ready as first_ready};
 
-use bits::Place as Level;
+use crate::Level;
 
 // Level 2 is never recorded: it requests while the pin EXTINT is high and level 2 is enabled.
 pub fn requesting(recorded: &[bool; 8], mask: &[bool; 8], extint: bool) -> [bool; 8]
@@ -28,11 +28,13 @@ pub fn ready(requesting: &[bool; 8], service: &[bool; 8], nesting: bool) -> Opti
 pub(crate) fn lowest_of(set: &[bool; 8]) -> Option<Level>
     ensures { result ≡ lowest set.now }
 {
-    let place = set.iter().position(|on| *on)?;
-    Some(Level::new(place as u8))
+    set.iter()
+        .position(|on| *on)
+        .map(|place| Level::new(place as u8))
 }
 
 // The lowest requesting level, if its number is below that of every level in service.
+#[tactic(auto, using(crate::proofs::Lowest::lowest_below))]
 fn lowest_below(requests: &[bool; 8], service: &[bool; 8]) -> Option<Level>
     ensures { result ≡ lowest (below requests.now service.now) }
 {

@@ -3,6 +3,7 @@ ghost use Rattle.std.specs.Prelude.{◌≡◌, ◌+◌, ◌%◌, ◌^◌, ◌<�
 ghost use Rattle.listing.specs.Columns.{justified};
 
 // Fills all the columns with the number, which has at most as many digits as there are columns.
+#[tactic(auto, using(crate::proofs::Places::rest_more, crate::proofs::Places::byte_is, crate::proofs::Places::one_more))]
 pub(crate) fn write_number(columns: &mut [u8], number: u64)
     requires fits { number < 10 ^ length columns.old }
     ensures { columns.new ≡ justified (length columns.old) number }

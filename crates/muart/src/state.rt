@@ -8,7 +8,7 @@ use timers::Timers;
 use timing::Accumulator;
 
 // The prescaler counts system clocks, the step divider internal clocks; the remainder is what the baud rate left over.
-#[derive(Clone, Copy)]
+#[derive(Clone, Copy, Default)]
 pub struct Dividers {
     pub prescaler: Accumulator,
     pub steps: Accumulator,

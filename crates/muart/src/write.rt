@@ -13,13 +13,6 @@ use registers::words::{lawful_command1, lawful_command2, lawful_command3, lawful
 use serial::receiver::Receiver;
 use serial::transmitter::Transmitter;
 use timers::Timers;
-use timing::Accumulator;
-
-const NO_PHASE: Dividers = Dividers {
-    prescaler: Accumulator { at: 0 },
-    steps: Accumulator { at: 0 },
-    remainder: Accumulator { at: 0 },
-};
 
 fn lawful(register: Register, word: u8) -> bool
     ensures { result ≡ is_lawful register word }
@@ -77,7 +70,7 @@ impl StandIn {
                 mask: [false; 8],
                 begun: None,
                 timers: Timers::new(),
-                dividers: NO_PHASE,
+                dividers: Dividers::default(),
                 serial: Serial {
                     transmitter: Transmitter::new(),
                     receiver: Receiver::new(),
@@ -95,13 +88,7 @@ impl StandIn {
     pub fn power_up(rxd: bool) -> StandIn
         ensures after { result ≡ powered_up rxd }
     {
-        let pins = Pins {
-            port1: [false; 8],
-            port2: [false; 8],
-            cts: false,
-            extint: false,
-        };
-        StandIn::cleared(pins, rxd)
+        StandIn::cleared(Pins::default(), rxd)
     }
 
     // Tells the levels that were in service.
@@ -133,11 +120,11 @@ impl StandIn {
         match register {
             Register::Command1 => {
                 self.rest.registers.command1 = word;
-                self.rest.dividers = NO_PHASE;
+                self.rest.dividers = Dividers::default();
             }
             Register::Command2 => {
                 self.rest.registers.command2 = word;
-                self.rest.dividers = NO_PHASE;
+                self.rest.dividers = Dividers::default();
             }
             Register::Command3 => self.command3(word),
             Register::Mode => {

@@ -1,9 +1,9 @@
 // The bench: a script on standard input, its listing on standard output.
 use crate::reading::read_line;
 use bench::run_line;
-use board::{Board, Line, ServiceMark, WireMark};
+use board::Board;
 use line::Loopback;
-use recorder::Recorder;
+use marks::Recorders;
 use std::io;
 use std::io::{BufReader, BufWriter, Write};
 
@@ -12,10 +12,9 @@ pub const LAST_LINE: u32 = 99_999;
 // The bench lists no marks, so its recorders have no room.
 pub fn list(rt: &HostRuntime) -> io::Result<()> {
     let mut board = Board::power_up(Loopback::new());
-    let mut no_wires: [WireMark; 0] = [];
-    let mut no_services: [ServiceMark; 0] = [];
-    let mut wires = Recorder::new(&mut no_wires);
-    let mut services = Recorder::new(&mut no_services);
+    let mut no_wires = [];
+    let mut no_services = [];
+    let mut recorders = Recorders::new(&mut no_wires, &mut no_services);
     let mut input = BufReader::new(rt.alloc(), rt.stdin())?;
     let mut output = BufWriter::new(rt.alloc(), rt.stdout())?;
     let mut line = Vec::new(rt.alloc());
@@ -23,13 +22,7 @@ pub fn list(rt: &HostRuntime) -> io::Result<()> {
         if !read_line(&mut input, &mut line)? {
             break;
         }
-        let listed = run_line(
-            &mut board,
-            &mut wires,
-            &mut services,
-            number,
-            line.as_slice(),
-        );
+        let listed = run_line(&mut board, &mut recorders, number, line.as_slice());
         if let Some(bytes) = listed {
             output.write_all(&bytes)?;
         }

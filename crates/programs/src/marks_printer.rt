@@ -2,31 +2,23 @@
 use crate::lister::LAST_LINE;
 use crate::reading::read_line;
 use bench::run_line;
-use board::{Board, Line, ServiceMark, WireMark};
+use board::Board;
 use line::Loopback;
-use mark_lines::{ServiceText, WireText};
-use recorder::Recorder;
+use marks::{Line, Recorders, ServiceMark, WireMark};
+use std::fmt::Display;
 use std::io;
 use std::io::{BufReader, BufWriter, Write};
 
 // Room for so many marks of either kind.
 const ROOM: usize = 1_000_000;
 
-fn print_wires<W: Write + Drop>(output: &mut BufWriter<W>, marks: &[WireMark]) -> io::Result<()> {
-    for mark in marks {
-        let text = WireText(*mark);
-        writeln!(output, "{text}")?;
-    }
-    Ok(())
-}
-
-fn print_services<W: Write + Drop>(
+// Prints each mark as a line of its own.
+fn print_each<T: Display, W: Write + Drop>(
     output: &mut BufWriter<W>,
-    marks: &[ServiceMark],
+    marks: &[T],
 ) -> io::Result<()> {
     for mark in marks {
-        let text = ServiceText(*mark);
-        writeln!(output, "{text}")?;
+        writeln!(output, "{mark}")?;
     }
     Ok(())
 }
@@ -42,27 +34,20 @@ pub fn print_marks(rt: &HostRuntime) -> io::Result<()> {
     let mut wire_room = vec![in rt.alloc(); blank_wire; ROOM]?;
     let mut service_room = vec![in rt.alloc(); blank_service; ROOM]?;
     let mut board = Board::power_up(Loopback::new());
-    let mut wires = Recorder::new(wire_room.as_mut_slice());
-    let mut services = Recorder::new(service_room.as_mut_slice());
+    let mut recorders = Recorders::new(wire_room.as_mut_slice(), service_room.as_mut_slice());
     let mut input = BufReader::new(rt.alloc(), rt.stdin())?;
     let mut line = Vec::new(rt.alloc());
     for number in 1..LAST_LINE + 1 {
         if !read_line(&mut input, &mut line)? {
             break;
         }
-        let _ = run_line(
-            &mut board,
-            &mut wires,
-            &mut services,
-            number,
-            line.as_slice(),
-        );
+        let _ = run_line(&mut board, &mut recorders, number, line.as_slice());
     }
     let mut output = BufWriter::new(rt.alloc(), rt.stdout())?;
-    print_wires(&mut output, wires.marks())?;
-    print_services(&mut output, services.marks())?;
-    let wires_away = wires.turned_away();
-    let services_away = services.turned_away();
+    print_each(&mut output, recorders.wires.marks())?;
+    print_each(&mut output, recorders.services.marks())?;
+    let wires_away = recorders.wires.turned_away();
+    let services_away = recorders.services.turned_away();
     writeln!(
         output,
         "turned away: {wires_away} wire, {services_away} service"

@@ -2,9 +2,9 @@
 // output.
 use crate::reading::read_line;
 use anyhow::anyhow;
-use board::{Board, ServiceMark, WireMark};
+use board::Board;
 use line::{Partner, Recorded};
-use recorder::Recorder;
+use marks::Recorders;
 use registers::latch::Latched;
 use std::io::BufReader;
 use std::{io, str};
@@ -35,12 +35,10 @@ fn read_waits(rt: &HostRuntime) -> anyhow::Result<Vec<u32>> {
 }
 
 // The clocks that the waveform lasts, and a frame more.
-fn length_of(waits: &Vec<u32>) -> u64 {
-    let mut clocks: u64 = 2_000;
-    for wait in waits.iter() {
-        clocks = clocks.saturating_add(u64::from(*wait).max(1));
-    }
-    clocks
+fn length_of(waits: &[u32]) -> u64 {
+    waits.iter().fold(2_000, |clocks, wait| {
+        clocks.saturating_add(u64::from(*wait).max(1))
+    })
 }
 
 // Prints each character with the clock number at which the host reads it.
@@ -48,25 +46,19 @@ pub fn print_received(rt: &HostRuntime) -> anyhow::Result<()> {
     let waits = read_waits(rt)?;
     let clocks = length_of(&waits);
     let mut board = Board::power_up(Recorded::new(waits));
-    let mut no_wires: [WireMark; 0] = [];
-    let mut no_services: [ServiceMark; 0] = [];
-    let mut wires = Recorder::new(&mut no_wires);
-    let mut services = Recorder::new(&mut no_services);
-    let _ = board.write(Latched::new(1, true), COMMAND_2, &mut wires, &mut services);
-    let _ = board.write(
-        Latched::new(2, true),
-        RECEIVER_ON,
-        &mut wires,
-        &mut services,
-    );
+    let mut no_wires = [];
+    let mut no_services = [];
+    let mut recorders = Recorders::new(&mut no_wires, &mut no_services);
+    let _ = board.write(Latched::new(1, true), COMMAND_2, &mut recorders);
+    let _ = board.write(Latched::new(2, true), RECEIVER_ON, &mut recorders);
     for _ in 0..clocks / STEP + 1 {
-        let _ = board.span(STEP, &mut wires, &mut services);
+        let _ = board.span(STEP, &mut recorders);
         let status = board
-            .read(Latched::new(15, true), &mut wires, &mut services)
+            .read(Latched::new(15, true), &mut recorders)
             .unwrap_or(0);
         if status & RECEIVED != 0 {
             let character = board
-                .read(Latched::new(7, true), &mut wires, &mut services)
+                .read(Latched::new(7, true), &mut recorders)
                 .unwrap_or(0);
             let clock = board.clock();
             println!(rt; "{clock} {character}")?;

@@ -1,3 +1,2 @@
 pub mod Extending
-mod Keeping
 pub mod Marks

@@ -1,3 +1,2 @@
 mod Reading
 pub mod Start
-mod Whole

@@ -6,6 +6,7 @@ use Rattle.serial.specs.Receiving.{SoundReceiver, lasting, lessened, passed, qui
 use Rattle.serial.specs.declared.receiver.Receiving.{Receiving}
 use Rattle.serial.specs.declared.receiver.Receiver.{Receiver}
 use Rattle.serial.specs.declared.stage.Stage.TheVariants.{Idle, Start, Data, Parity, Stop}
+use Rattle.serial.proofs.Stages.{rest_in}
 
 -- A state that counts down, and tells nothing meanwhile.
 pub record Countdown (at : ℕ → Receiver) : Type 0 where
@@ -89,6 +90,12 @@ quiet_heard w (Parity x) n sound h =
 quiet_heard w (Stop x) n sound h =
     rw add-zero at (counted w (Stop x) (λ l. Stop (lasting l x)) (stop_counts x) 0 x.left n (omega arith) (at_first w (Stop x)))
 
+pub quiet_after : (w : ℕ → Bool) (p : Receiver) (n : ℕ) → SoundReceiver p → n ≤ quiet_ticks p → after w n p ≡ lessened n p
+quiet_after w p n sound h = (quiet_heard w p n sound h).state
+
+pub quiet_silence : (w : ℕ → Bool) (p : Receiver) (n k : ℕ) → SoundReceiver p → n ≤ quiet_ticks p → k ≤ n → tells w k p ≡ None
+quiet_silence w p n k sound h = (quiet_heard w p n sound h).silent k
+
 -- ---- for callers that reason over many ticks
 
 -- a quiet tick takes one off
@@ -105,11 +112,7 @@ quiet_told rxd (Stop x) h = rw (lt-ltb 1 x.left (omega arith))
 
 -- what is left stays quiet
 pub quiet_rest : (p : Receiver) (n m : ℕ) → n + m ≤ quiet_ticks p → m ≤ quiet_ticks (lessened n p)
-quiet_rest Idle n m h = omega arith
-quiet_rest (Start x) n m h = omega arith
-quiet_rest (Data x place) n m h = omega arith
-quiet_rest (Parity x) n m h = omega arith
-quiet_rest (Stop x) n m h = omega arith
+quiet_rest = rest_in (λ s. s.left) lasting (λ n s. refl)
 
 pub quiet_sound : (p : Receiver) (n : ℕ) → SoundReceiver p → n ≤ quiet_ticks p → SoundReceiver (lessened n p)
 quiet_sound Idle n sound h = sound

@@ -10,3 +10,4 @@ pub mod Silent
 pub mod SoundForms
 pub mod SoundReceiving
 pub mod SoundSending
+pub mod Stages

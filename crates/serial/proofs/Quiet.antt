@@ -9,6 +9,7 @@ use Rattle.serial.specs.Sending.{Phase}
 use Rattle.serial.specs.declared.stage.Stage.TheVariants.{Idle, Start, Data, Parity, Stop}
 use Rattle.serial.specs.declared.transmitter.Transmitter.{Transmitter}
 use Rattle.serial.proofs.Counting.{times_still, times_count}
+use Rattle.serial.proofs.Stages.{rest_in}
 
 -- the last tick of a data bit
 pub last_of_bit : (s : Sending) (place : ℕ) → s.left ≤ 1 → past_bit s place ≡ passed (Data s place)
@@ -55,11 +56,7 @@ quiet_ending (Stop s) h = ap not (lt-ltb 1 s.left (omega arith))
 
 -- what is left stays quiet
 pub quiet_rest : (p : Phase) (n m : ℕ) → n + m ≤ quiet_ticks p → m ≤ quiet_ticks (lessened n p)
-quiet_rest Idle n m h = omega arith
-quiet_rest (Start s) n m h = omega arith
-quiet_rest (Data s place) n m h = omega arith
-quiet_rest (Parity s) n m h = omega arith
-quiet_rest (Stop s) n m h = omega arith
+quiet_rest = rest_in (λ s. s.left) lasting (λ n s. refl)
 
 -- TxD stays as it is
 pub quiet_level : (p : Phase) (n : ℕ) → level (lessened n p) ≡ level p

@@ -95,7 +95,8 @@ impl Form {
 
     /// How long the line stays high after the last bit.
     pub(crate) fn stop_ticks(self) -> u32
-        ensures { result ≡ stop_ticks self }
+        ensures value { result ≡ stop_ticks self }
+        ensures sound { SoundForm self }
     {
         match self.stops {
             Stops::One => self.ticks,

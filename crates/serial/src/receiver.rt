@@ -117,6 +117,7 @@ impl Receiver {
     }
 
     /// Lets as many ticks pass at once, in which no sample falls.
+    #[tactic(auto, using(crate::proofs::Heard::quiet_after, crate::proofs::Heard::quiet_silence))]
     pub fn skip(&mut self, ticks: u64)
         requires { ticks ≤ quiet_ticks self.old }
         ensures after { (w : ℕ → Bool) → self.new ≡ after_ticks w ticks self.old }
@@ -158,6 +159,7 @@ impl Receiving {
         }
     }
 
+    #[tactic(auto, using(crate::proofs::Gathered::one_more))]
     fn with_bit(self, place: u8, rxd: bool) -> Receiving
         requires sound { SoundReceiving self place }
         requires place { place < self.form.length }

@@ -122,6 +122,7 @@ impl Transmitter {
     }
 
     /// Lets as many ticks pass at once, in which nothing but counting happens.
+    #[tactic(auto, using(crate::proofs::Quiet::lessens))]
     pub fn skip(&mut self, ticks: u64)
         requires { ticks ≤ quiet_ticks self.old.phase }
         ensures { (form : Form) (cts : Bool) → self.new ≡ times ticks (ticked form cts) self.old }
@@ -194,8 +195,7 @@ impl Stage<Sending> {
 
 impl Sending {
     fn past_bit(self, place: u8) -> Stage<Sending>
-        requires sound { SoundSending self }
-        requires place { place < self.form.length }
+        requires { place < 8 }
         ensures value { result ≡ past_bit self place }
         ensures kept { SoundPhase result }
     {
@@ -207,7 +207,6 @@ impl Sending {
     }
 
     fn past_data(self) -> Stage<Sending>
-        requires { SoundSending self }
         ensures value { result ≡ past_data self }
         ensures kept { SoundPhase result }
     {
@@ -219,7 +218,6 @@ impl Sending {
     }
 
     fn stopping(self) -> Stage<Sending>
-        requires { SoundSending self }
         ensures value { result ≡ stopping self }
         ensures kept { SoundPhase result }
     {
@@ -227,7 +225,8 @@ impl Sending {
     }
 
     fn bit_long(self) -> Sending
-        ensures { result ≡ lasting self.form.ticks self }
+        ensures value { result ≡ lasting self.form.ticks self }
+        ensures kept { SoundSending result }
     {
         self.lasting(self.form.ticks())
     }

@@ -56,7 +56,7 @@ timer_lapsed n true t h = ticked_times n true t ∙ (let e = times_lowered 256 n
 timer_lapsed n false t h = times_still n ticked t
 
 -- Two bytes make a joined count.
-value_below : (d : Duo) → d.low.count < 256 → d.high.count < 256 → value_of d < 65536
+pub value_below : (d : Duo) → d.low.count < 256 → d.high.count < 256 → value_of d < 65536
 value_below d l h = omega arith
 
 pub pair_lapsed_lem : (n : ℕ) (d : Duo) → d.low.count < 256 → d.high.count < 256 → times n pair_ticked d ≡ pair_lapsed n d

@@ -73,7 +73,7 @@ impl Timers {
         one.min(even.min(odd))
     }
 
-    // A rise on the pin that timer 2 counts under CT2, or timer 3 under CT3, each as itself or, unless it rests, as its pair; the timers that go from 1 to 0.
+    // A rise on the pin that timer 2 counts under CT2, or timer 3 under CT3: it alone or, unless that rests, its pair; the timers that go from 1 to 0.
     pub fn count_edge(&mut self, side: Side, modes: TimerModes) -> Fired
         ensures tells { result ≡ edge_firing side modes self.old }
         ensures state { self.new ≡ edge_counted side modes self.old }
@@ -118,6 +118,7 @@ impl Timers {
         }
     }
 
+    // Matches like `write`, and is no plainer joined to it: a place lent to write in would not serve a read, and under T5C timer 5 has two.
     pub fn read(&self, which: Number) -> u8
         ensures { result ≡ count_of which self.now }
     {

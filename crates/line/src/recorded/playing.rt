@@ -20,6 +20,7 @@ impl Partner for Recorded {
             .map_or(QUIET_MOST, |left| u64::from(left.max(1)).min(QUIET_MOST))
     }
 
+    #[tactic(auto, using(crate::proofs::Playing::tape_ends))]
     fn advance(&mut self, mut clocks: u64) {
         while let Some(left) = self.left {
             let wait = u64::from(left.max(1));

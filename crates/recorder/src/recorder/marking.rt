@@ -6,6 +6,7 @@ use super::Recorder;
 impl<'a, T: Copy> Recorder<'a, T> {
     /// A recorder over the room that the host lends, with nothing recorded yet. Of all marks made from here on the first
     /// that fit are kept, and all are counted.
+    #[tactic(auto, using(crate::proofs::Marks::kept_take, crate::proofs::Marks::counts_all))]
     pub fn new(room: &'a mut [T]) -> Recorder<'a, T>
         ensures view { recording result ≡ empty (length room.old) }
         ensures lent { lent result ≡ room.entry }

@@ -8,7 +8,7 @@ impl<'a, T: Copy> Recorder<'a, T> {
     pub fn marks(&self) -> &[T]
         ensures { result.now ≡ (recording self.now).kept }
     {
-        &self.room[0..self.kept]
+        &self.room[..self.kept]
     }
 
     /// How many marks were made; it stops at the largest `u64`.

@@ -1,3 +1,4 @@
+use Rattle.std.proofs.Common.{rules}
 use Rattle.board.proofs.Cutting.{cut_does_not_show}
 use Rattle.board.proofs.Stacking.{service_is_a_stack}
 use Rattle.board.proofs.Drained.{requests_drain}
@@ -7,10 +8,9 @@ use Rattle.bench.proofs.runner.run_line.Goals as goal
 
 pub returns : goal.returns
 returns c = record {
-  prints = c.run_numbered.ensures.prints;
-  state = c.run_numbered.ensures.state;
-  wires = c.run_numbered.ensures.wires;
-  services = c.run_numbered.ensures.services;
+  prints = search rules;
+  state = search rules;
+  room = c.run_said.ensures.room;
   start = start_runs;
   script = script_is_a_history;
   answers = script_answers_all;

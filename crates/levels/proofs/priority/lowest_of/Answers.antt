@@ -1,17 +1,9 @@
-use Rattle.std.proofs.Common.{◌≡◌, Some, rules, tests, sym, ap, ◌∙◌}
+use Rattle.std.proofs.Common.{◌≡◌, rules, tests, ◌∙◌}
 use Rattle.std.proofs.lemmas.Iterator.{YieldsList-from_slice}
 use Rattle.std.proofs.lemmas.Iterator.Search.{position_from_yields_List}
 use Rattle.levels.specs.Sets.{lowest}
 use Rattle.levels.proofs.Lowest.{lowest_position}
 use Rattle.levels.proofs.priority.lowest_of.Goals as goal
-
-pub returns-in_err-place : goal.returns-in_err-place
-returns-in_err-place c =
-    let found : c.position.result ≡ lowest c.args.set.now =
-    position_from_yields_List (λ b. b) _ _ c.position.result c.position.ensures.ran
-    (YieldsList-from_slice c.args.set.now c.iter.ensures.rest) (λ x b q k. search (rules, tests))
-    ∙ lowest_position c.args.set.now in
-    c.from_residual.ensures ∙ sym c.in_err-place.was ∙ found
 
 pub returns : goal.returns
 returns c =
@@ -19,4 +11,4 @@ returns c =
     position_from_yields_List (λ b. b) _ _ c.position.result c.position.ensures.ran
     (YieldsList-from_slice c.args.set.now c.iter.ensures.rest) (λ x b q k. search (rules, tests))
     ∙ lowest_position c.args.set.now in
-    ap Some c.new.ensures ∙ sym c.in_ok-place.was ∙ found
+    rw (← found) (search rules)

@@ -1,6 +1,6 @@
 use Rattle.std.proofs.Common.{◌∙◌, rules}
 use Rattle.std.specs.Vec.Iter.{into_iter_items}
-use Rattle.line.proofs.Playing.{next_under_way, tape_ends, tape_stays, tape_turns}
+use Rattle.line.proofs.Playing.{next_under_way, tape_stays, tape_turns}
 use Rattle.line.proofs.recorded.playing.RecordedPartner.advance.Goals as goal
 
 pub returns-then-clocks-wait : goal.returns-then-clocks-wait
@@ -14,10 +14,4 @@ loop-self-preserved c =
     let at = c.loop-self in
     let next = next_under_way c.next-self.result at.self.waits c.next-self.new.self at.self.waits.rest.ok.0 c.next-self.ensures.cases in
     let turns = tape_turns at.clocks at.self.level at.self.left (into_iter_items at.self.waits) _ _ c.in-Some.is (c.from-wait.ensures ∙ c.max.ensures) _ next c.if-clocks-wait.false in
-    search rules
-
-pub returns : goal.returns
-returns c =
-    let at = c.loop-self in
-    let ends = tape_ends at.clocks at.self.level at.self.left (into_iter_items at.self.waits) c.in_default.is in
     search rules

@@ -1,7 +1,0 @@
-use Rattle.std.proofs.Common.{rules}
-use Rattle.board.specs.Views.{settled}
-use Rattle.board.proofs.inner.Inner.join.Goals as goal
-
-pub returns : goal.returns
-unfolding settled
-returns g c = search rules

@@ -1,0 +1,25 @@
+// The board that hosts hold.
+use muart::state::StandIn;
+use std::marker::Model;
+
+mod calls;
+mod running;
+
+/// The stand-in beside a line partner of any kind, with the clock number. The recorders stand outside it.
+#[derive(Drop)]
+pub struct Board<P> {
+    unit: StandIn,
+    partner: P,
+    clock: u64,
+}
+
+// Its bounds hold whatever calls are made, so no call need ask for them.
+impl<P> Model for Board<P> {
+    ghost use Rattle.board.specs.Views.{Parts, parts, Bounds};
+
+    ghost Value = { Parts P };
+
+    ghost view = { λ b. parts b.unit b.partner b.clock };
+
+    ghost invariant = { λ b. Bounds (parts b.unit b.partner b.clock) };
+}
