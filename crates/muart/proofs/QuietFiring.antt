@@ -1,10 +1,10 @@
 -- Timers whose firing changes nothing.
-use Rattle.std.proofs.Common.{◌≡◌, Bool, true, false, cond, not, ◌&&◌, ◌||◌, List, get_or, set, sym, refl, ap, ◌∙◌, rules}
+use Rattle.std.proofs.Common.{◌≡◌, Bool, true, false, cond, not, ◌&&◌, ◌||◌, List, get_or, set, refl, rules}
 use Rattle.levels.proofs.Recording.{not_fresh, not_enabled}
 use Rattle.timers.specs.declared.modes.Fired.{Fired}
 use Rattle.timers.specs.Stepping.{Quiet}
 use Rattle.registers.specs.declared.held.Registers.{Registers}
-use Rattle.muart.specs.Firing.{modes_of, biti_of, request_if, fired_requests, fired_mask, watched, unasked}
+use Rattle.muart.specs.Firing.{modes_of, biti_of, fired_requests, fired_mask, watched}
 
 mask_kept : (p c f3 f5 n3 n7 : Bool) (mask : List Bool) → (f3 && (get_or mask 3 false && ((c && p) || n3))) ≡ false → (f5 && (get_or mask 7 false && ((c && not p) || n7))) ≡ false → cond (c && cond p f3 f5) (set mask (cond p 3 7) false) mask ≡ mask
 mask_kept true c f3 f5 n3 n7 mask e f = not_enabled (c && f3) 3 mask (search rules)
