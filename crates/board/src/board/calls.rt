@@ -4,7 +4,7 @@ ghost use Rattle.recorder.specs.Recording.{Recording};
 ghost use Rattle.marks.specs.declared.wires.WireMark.{WireMark as Wire};
 ghost use Rattle.marks.specs.declared.services.ServiceMark.{ServiceMark as Service};
 ghost use Rattle.marks.specs.Both.{BothExtended};
-ghost use Rattle.board.specs.Views.{view, last_clock};
+ghost use Rattle.board.specs.Views.{view, last_clock, Bounds};
 ghost use Rattle.board.specs.Cuts.{CutDoesNotShow};
 ghost use Rattle.board.specs.ServiceStack.{ServiceIsAStack};
 ghost use Rattle.board.specs.Draining.{RequestsDrain};
@@ -45,10 +45,11 @@ impl<P: Partner> Board<P> {
         }
     }
 
-    // The clock number.
+    // The clock number. A caller learns here what holds of every board.
     pub fn clock(&self) -> u64
         ensures value { result ≡ self.now.clock }
         ensures within { result ≤ last_clock }
+        ensures bounds { Bounds self.now }
     {
         self.clock
     }
