@@ -1,4 +1,5 @@
-// A set of levels as a byte: bit n of the byte is place n of the set.
+// A set of levels as a byte: bit n of the byte is place n of the set. Functions and no `From`, since neither an array nor a
+// byte is a type of this crate.
 ghost use Rattle.std.specs.Prelude.{◌≡◌};
 ghost use Rattle.levels.specs.Bytes.{flags, byte};
 

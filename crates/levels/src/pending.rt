@@ -12,6 +12,7 @@ pub struct Pending {
 }
 
 impl Pending {
+    // No derived `Default`: its clause speaks of each flag, and the proof did not get the two lists of eight from it.
     pub fn new() -> Pending
         ensures { result ≡ record { requests = replicate 8 false; service = replicate 8 false } }
     {

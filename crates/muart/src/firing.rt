@@ -1,6 +1,6 @@
 // What the timers that step from 1 to 0 do to the levels.
 ghost use Rattle.std.specs.Prelude.{◌≡◌};
-ghost use Rattle.muart.specs.Firing.{modes_of, biti_of, asks as asked, recorded, unasked as is_unasked, heeded as is_heeded, watched as timers_watched};
+ghost use Rattle.muart.specs.Firing.{modes_of, biti_of, asks as asked, recorded, heeded as is_heeded, watched as timers_watched};
 
 use crate::state::StandIn;
 use bits::bit;
@@ -62,12 +62,7 @@ impl StandIn {
         }
     }
 
-    fn unasked(&self, level: Level) -> bool
-        ensures { result ≡ is_unasked level self.now.rest.mask self.now.sensitive.levels.requests }
-    {
-        self.rest.mask[level.index()] && !self.sensitive.levels.requests[level.index()]
-    }
-
+    // Whether the level's request would be new, or would disable the level.
     fn heeded(&self, level: Level, disabling: bool) -> bool
         ensures { result ≡ is_heeded disabling level self.now.rest.mask self.now.sensitive.levels.requests }
     {
@@ -82,10 +77,10 @@ impl StandIn {
         let modes = self.timer_modes();
         let biti = self.biti();
         Fired {
-            one: self.unasked(Level::new(0)),
-            two: !biti && self.unasked(Level::new(1)),
+            one: self.heeded(Level::new(0), false),
+            two: !biti && self.heeded(Level::new(1), false),
             three: self.heeded(Level::new(3), modes.t5c && modes.odd.joined),
-            four: self.unasked(Level::new(6)),
+            four: self.heeded(Level::new(6), false),
             five: self.heeded(Level::new(7), modes.t5c && !modes.odd.joined),
         }
     }

@@ -96,7 +96,8 @@ fn read_buffer(rest: &Rest, sensitive: &mut Sensitive) -> Reading
     }
 }
 
-// Only the interrupt address, the buffer and the status disturb anything.
+// Only the interrupt address, the buffer and the status disturb anything. The rest comes by shared reference and the small
+// record by `&mut`, and no stand-in as a whole, so that the signature shows what a read may change.
 pub fn read(rest: &Rest, sensitive: &mut Sensitive, register: Register) -> Reading
     ensures answer { result ≡ reading register rest.now sensitive.old }
     ensures after { sensitive.new ≡ read_leaves register rest.now sensitive.old }

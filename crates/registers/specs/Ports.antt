@@ -1,5 +1,5 @@
 -- Directions and levels of the pins.
-use Rattle.std.specs.Prelude.{ℕ, zero, suc, ◌+◌, ◌-◌, ◌^◌, ◌<◌, Bool, false, cond, not, ◌&&◌, Some, None, Option, ◌==◌, nat_lt, slice_index_or}
+use Rattle.std.specs.Prelude.{ℕ, zero, suc, ◌+◌, ◌-◌, ◌^◌, Bool, false, cond, not, ◌&&◌, Some, None, Option, ◌==◌, nat_lt, slice_index_or}
 use Rattle.registers.specs.declared.held.Registers.{Registers}
 use Rattle.registers.specs.declared.held.Pins.{Pins}
 use Rattle.registers.specs.declared.pins.Pin.{Pin}
@@ -11,13 +11,6 @@ use Rattle.registers.specs.Words.{bit_of}
 -- codes 0-7 are P10-P17, 8-15 P20-P27, 16 CTS, 17 EXTINT
 abbrev pub pin_of : ℕ → Option Pin
 pin_of code = cond (nat_lt code 8) (Some (Port1 code)) (cond (nat_lt code 16) (Some (Port2 (code - 8))) (cond (code == 16) (Some Cts) (cond (code == 17) (Some Extint) None)))
-
--- a pin of a port has a place below 8
-abbrev pub Placed : Pin → Type 0
-Placed (Port1 n) = n < 8
-Placed (Port2 n) = n < 8
-Placed Cts = Unit {0}
-Placed Extint = Unit {0}
 
 -- P12, P13, P15, P17 are inputs while CT2, CT3, T5C, BITI is set
 abbrev pub used_as_input : Registers → ℕ → Bool

@@ -34,6 +34,7 @@ impl Columns {
         // The digits so far, or nothing before the first.
         let mut number: Option<u64> = None;
         let mut bytes = line.get(self.first as usize - 1..).unwrap_or(&[]).iter();
+        // The column is what a fault names.
         for column in self.first..self.last + 1 {
             let byte = *bytes.next().ok_or(Fault { column })?;
             if byte.is_ascii_digit() {
