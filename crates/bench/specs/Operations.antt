@@ -6,6 +6,7 @@ use Rattle.listing.specs.declared.lines.Line.{Line}
 use Rattle.refusals.specs.declared.refusal.Refusal.{Refusal}
 use Rattle.registers.specs.declared.latch.Latched.{Latched}
 use Rattle.refusals.specs.declared.refusal.Refusal.TheVariants.{ScriptLine}
+use Rattle.refusals.specs.Refusals.{number_of}
 use Rattle.board.specs.Perform.{Call, read, write, pulse, first_pulse, second_pulse, pin, span, look, reset, Answer, done, byte, counts, refused, looked, answered, State, after}
 
 -- the bench selects the chip in every bus cycle
@@ -52,10 +53,15 @@ last_answer [] = Ok 0
 last_answer (a ∷ []) = listed a
 last_answer (a ∷ b ∷ more) = last_answer (b ∷ more)
 
+-- an answer, or the number of its refusal
+abbrev pub numbered : Result ℕ Refusal → Result ℕ ℕ
+numbered (Ok b) = Ok b
+numbered (Err e) = Err (number_of e)
+
 -- the listing line of an operation, with the clock number after it
 abbrev pub line_of : ℕ → Result ℕ Refusal → ℕ → Line
-line_of number answer clock = record { number = number; answer = answer; last = clock }
+line_of number answer clock = record { number = number; answer = numbered answer; last = clock }
 
 -- the listing line of a script line that cannot stand: refusal 13, and the first column that cannot stand
 abbrev pub fault_line : ℕ → ℕ → Line
-fault_line number column = record { number = number; answer = Err ScriptLine; last = column }
+fault_line number column = record { number = number; answer = Err (number_of ScriptLine); last = column }

@@ -1,4 +1,4 @@
-// The bench, and one operation run on it.
+// Running one operation on the bench.
 ghost use Rattle.std.specs.Prelude.{◌≡◌, [], ◌∷◌};
 ghost use Rattle.marks.specs.Both.{BothExtended};
 ghost use Rattle.board.specs.Perform.{look, answered};
@@ -7,8 +7,8 @@ ghost use Rattle.bench.specs.Operations.{calls_of, listed, last_listed};
 ghost use Rattle.bench.specs.Benches.{state_of};
 
 use crate::bench::Bench;
-use registers::latch::Latched;
 use refusals::Refusal;
+use registers::latch::Latched;
 use script::Operation;
 
 impl<'a> Bench<'a> {

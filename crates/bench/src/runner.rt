@@ -7,6 +7,7 @@ ghost use Rattle.board.specs.Cuts.{CutDoesNotShow};
 ghost use Rattle.board.specs.ServiceStack.{ServiceIsAStack};
 ghost use Rattle.board.specs.Draining.{RequestsDrain};
 ghost use Rattle.bench.specs.Benches.{state_of};
+ghost use Rattle.bench.specs.Operations.{numbered};
 ghost use Rattle.bench.specs.Scripts.{said_calls, said_prints, line_calls, line_prints, StartRuns, ScriptIsAHistory, ScriptAnswers};
 
 use crate::bench::Bench;
@@ -16,6 +17,13 @@ use script::{Fault, Item, parse};
 
 // A script has no more lines than the listing's first five columns can number.
 const LAST_LINE: u32 = 99_999;
+
+// An answer as the columns show it, a refusal by its number.
+fn shown(answer: Result<u8, Refusal>) -> Result<u8, u8>
+    ensures { result ≡ numbered answer }
+{
+    answer.map_err(u8::from)
+}
 
 impl<'a> Bench<'a> {
     /// Runs one line of a script, counted from 1, and gives what is listed of it. A line past the last is not run. Of a
@@ -47,7 +55,7 @@ impl<'a> Bench<'a> {
         match said {
             Ok(Item::Note(_)) => None,
             Ok(Item::Step(operation)) => {
-                let answer = self.operate(operation);
+                let answer = shown(self.operate(operation));
                 let last = self.board.clock();
                 Some(write_line(&Line {
                     number,
@@ -57,7 +65,7 @@ impl<'a> Bench<'a> {
             }
             Err(fault) => Some(write_line(&Line {
                 number,
-                answer: Err(Refusal::ScriptLine),
+                answer: shown(Err(Refusal::ScriptLine)),
                 last: u64::from(fault.column),
             })),
         }

@@ -21,6 +21,7 @@ impl Model for Place {
 }
 
 impl Place {
+    /// The place of a number below 8.
     pub fn new(number: u8) -> Place
         requires { number < 8 }
         ensures { result ≡ number }
@@ -28,6 +29,7 @@ impl Place {
         Place { number }
     }
 
+    /// The number, below 8.
     pub fn number(self) -> u8
         ensures value { result ≡ self }
         ensures within { result < 8 }

@@ -40,8 +40,8 @@ use Rattle.timing.proofs.Bare.{when_same}
 use Rattle.muart.specs.Reading.{ready_level, took, read_leaves, address_byte}
 use Rattle.muart.specs.Writing.{no_characters, stored, commanded3, write_answer, clears_nie, resets, no_level}
 use Rattle.muart.specs.Pulses.{pulse_level, second_answer}
-use Rattle.muart.specs.PinCalls.{set_outside, counts, rise, fall, pin_set, pin_tested}
-use Rattle.registers.specs.Ports.{outside}
+use Rattle.muart.specs.PinCalls.{counts, rise, fall, pin_set, pin_tested}
+use Rattle.registers.specs.Ports.{outside, set_outside}
 use Rattle.board.specs.Views.{View, settled, stirred, clock_once}
 use Rattle.board.specs.Perform.{Call, read, write, pulse, first_pulse, second_pulse, pin, span, look, snapshot, reset, Answer, byte, done, State, after, start, answered, view_after, strobe_of, read_effect, store_effect, write_effect, pulse_effect, first_effect, second_effect, pin_effect, span_result, spanned, byte_answer, plain_answer, read_result, write_result, ended as call_ended}
 use Rattle.board.specs.Histories.{ran, answers}

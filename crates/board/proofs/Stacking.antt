@@ -23,13 +23,13 @@ use Rattle.registers.specs.declared.words.Family.{Family}
 use Rattle.registers.specs.declared.words.Family.TheVariants.{I8085, I8086}
 use Rattle.muart.specs.declared.state.StandIn.{StandIn}
 use Rattle.registers.specs.Words.{family_of, bit_of, same_family}
-use Rattle.registers.specs.Ports.{outside}
+use Rattle.registers.specs.Ports.{outside, set_outside}
 use Rattle.muart.specs.Reading.{ready_level, read_leaves}
 use Rattle.muart.specs.Pulses.{free_to_take, pulse_level, second_answer}
 use Rattle.muart.specs.Serial.{form_in, rate_in, reception_kept, serial_tick, txd_level}
 use Rattle.muart.specs.Clock.{timer_step, divide_in, timed, rate_modulus, rated, internal_clock, prescale_in, clocked}
 use Rattle.muart.specs.State.{with_pins, with_receiver, with_steps, with_remainder, with_prescaler, with_service}
-use Rattle.muart.specs.PinCalls.{set_outside, counts_two, counts_three, calls_one, triggers, rise, fall, pin_set, pin_tested}
+use Rattle.muart.specs.PinCalls.{counts_two, counts_three, calls_one, triggers, rise, fall, pin_set, pin_tested}
 use Rattle.muart.specs.Writing.{no_level, was_reset, with_control, controlled, left_receiving, left_in_service, clears_nie, resets, lawful, stored, closed_by}
 use Rattle.marks.specs.declared.services.ServiceMark.{ServiceMark}
 use Rattle.marks.specs.declared.services.ServiceMark.TheVariants.{Taken, Passed, Closed}

@@ -7,14 +7,14 @@ mod tests {
     use board::Board;
     use line::Loopback;
     use marks::Recorders;
-    use registers::latch::Latched;
     use refusals::Refusal;
+    use registers::latch::Latched;
     use std::test::Fail;
 
     fn number_of<T: Drop>(answer: Result<T, Refusal>) -> u8 {
         match answer {
             Ok(_) => 0,
-            Err(refusal) => refusal.number(),
+            Err(refusal) => u8::from(refusal),
         }
     }
 
@@ -38,7 +38,7 @@ mod tests {
         };
         let answer = match board.begin_acknowledge(&mut recorders) {
             Ok(other) => number_of(board.finish_acknowledge(other, &mut recorders)),
-            Err(refusal) => refusal.number(),
+            Err(refusal) => u8::from(refusal),
         };
         let finished = board.finish_acknowledge(half, &mut recorders).unwrap_or(0);
         assert!(rt; answer == 7 && finished == 66);

@@ -13,6 +13,7 @@ pub fn flags_of(word: u8) -> [bool; 8]
     array::from_fn(|place| bit(word, place as u8))
 }
 
+// The same sum as a port's byte in registers, which makes its levels one by one and has no set of flags.
 pub fn byte_of(set: &[bool; 8]) -> u8
     ensures bits { result ≡ byte set.now }
     ensures back { flags result ≡ set.now }

@@ -1,19 +1,17 @@
 -- What one line of the listing holds.
 use Rattle.std.specs.Prelude.{ℕ, List, ◌++◌, codes, decimal, Result, Ok, Err}
-use Rattle.refusals.specs.declared.refusal.Refusal.{Refusal}
-use Rattle.refusals.specs.Refusals.{number_of}
 use Rattle.listing.specs.Columns.{justified, padded}
 use Rattle.listing.specs.declared.lines.Line.{Line}
 
 -- OK for what was done, NO for what was refused
-abbrev pub word_of : Result ℕ Refusal → List ℕ
+abbrev pub word_of : Result ℕ ℕ → List ℕ
 word_of (Ok answer) = codes "OK"
-word_of (Err refusal) = codes "NO"
+word_of (Err number) = codes "NO"
 
 -- the answer, or the refusal's number
-abbrev pub shown_of : Result ℕ Refusal → ℕ
+abbrev pub shown_of : Result ℕ ℕ → ℕ
 shown_of (Ok answer) = answer
-shown_of (Err refusal) = number_of refusal
+shown_of (Err number) = number
 
 -- columns 1 to 5 the line's number, 6 blank, 7 and 8 the word, 9 to 12 the answer, 13 to 28 the last number; a line feed
 abbrev pub layout : Line → List ℕ

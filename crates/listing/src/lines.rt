@@ -3,15 +3,14 @@ ghost use Rattle.std.specs.Prelude.{◌≡◌, ◌^◌, ◌<◌};
 ghost use Rattle.listing.specs.Layout.{layout, printed};
 
 use crate::number::write_number;
-use refusals::Refusal;
 
 // What one line says.
 #[derive(Clone, Copy)]
 pub struct Line {
     // the number of the script's line
     pub number: u32,
-    // the answer, 0 where there is none, or why the operation was refused
-    pub answer: Result<u8, Refusal>,
+    // the answer, 0 where there is none, or the refusal's number: a number and no `Refusal`, since the columns show any
+    pub answer: Result<u8, u8>,
     // the clock's number, or the column that refuses a script's line
     pub last: u64,
 }
@@ -27,7 +26,7 @@ pub fn write_line(line: &Line) -> [u8; 29]
         Ok(_) => b"OK",
         Err(_) => b"NO",
     };
-    let answer = line.answer.unwrap_or_else(u8::from);
+    let answer = line.answer.unwrap_or_else(|number| number);
     let mut bytes = [b' '; 29];
     write_number(&mut bytes[0..5], u64::from(line.number));
     bytes[6..8].copy_from_slice(word);

@@ -69,6 +69,7 @@ fn mark_change(
     }
 }
 
+/// A function on the one recorder and no method: a recorder is another crate's type.
 /// Marks the lines that changed: TxD, RxD and INT, in that order.
 #[tactic(auto, using(recorder::proofs::Extending::extended_on))]
 pub fn mark_changes(wires: &mut Recorder<'_, WireMark>, clock: u64, before: Lines, after: Lines)

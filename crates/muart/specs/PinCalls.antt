@@ -10,18 +10,11 @@ use Rattle.registers.specs.declared.pins.Pin.{Pin}
 use Rattle.registers.specs.declared.pins.Pin.TheVariants.{Port1, Port2, Cts, Extint}
 use Rattle.registers.specs.declared.held.Pins.{Pins}
 use Rattle.muart.specs.declared.state.StandIn.{StandIn}
-use Rattle.registers.specs.Ports.{pin_of, is_output, outside}
+use Rattle.registers.specs.Ports.{pin_of, is_output, outside, set_outside}
 use Rattle.muart.specs.Firing.{modes_of, biti_of, asks}
 use Rattle.muart.specs.State.{with_pins, with_timers}
 use Rattle.muart.specs.Serial.{cts_fell}
 use Rattle.muart.specs.Clock.{timers_moved}
-
--- the outside levels with one pin's set
-abbrev pub set_outside : Pin → Bool → Pins → Pins
-set_outside (Port1 n) v p = record p { port1 = slice_set p.port1 n v }
-set_outside (Port2 n) v p = record p { port2 = slice_set p.port2 n v }
-set_outside Cts v p = record p { cts = v }
-set_outside Extint v p = record p { extint = v }
 
 -- a counted edge of timer 2 or 3, or of its pair
 abbrev pub counts : Side → StandIn → StandIn

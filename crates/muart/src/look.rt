@@ -50,6 +50,7 @@ pub fn look(
 }
 
 impl StandIn {
+    // A look at the stand-in, which leaves it as it was.
     pub fn look(&mut self, registers: &[u8], place: &mut [u8]) -> Result<(), Refusal>
         ensures answer { result ≡ look_answer registers.now (length place.old) }
         ensures same { self.new ≡ self.old }

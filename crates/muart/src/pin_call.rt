@@ -1,24 +1,12 @@
 // Setting the outside level of a pin.
 ghost use Rattle.std.specs.Prelude.{◌≡◌};
-ghost use Rattle.muart.specs.PinCalls.{set_outside, rise as rise_of, fall as fall_of, pin_set, pin_tested};
+ghost use Rattle.muart.specs.PinCalls.{rise as rise_of, fall as fall_of, pin_set, pin_tested};
 
 use crate::state::StandIn;
 use levels::Level;
 use refusals::Refusal;
-use registers::held::Pins;
 use registers::pins::Pin;
 use timers::Side;
-
-fn set_outside(pins: &mut Pins, pin: &Pin, level: bool)
-    ensures { pins.new ≡ set_outside pin.now level pins.old }
-{
-    match *pin {
-        Pin::Port1(place) => pins.port1[place.index()] = level,
-        Pin::Port2(place) => pins.port2[place.index()] = level,
-        Pin::Cts => pins.cts = level,
-        Pin::Extint => pins.extint = level,
-    }
-}
 
 impl StandIn {
     // P12 and P13 count, P17 requests.
@@ -57,7 +45,7 @@ impl StandIn {
         if self.rest.pins.outside_level(pin) == level {
             return;
         }
-        set_outside(&mut self.rest.pins, pin, level);
+        self.rest.pins.set_outside(pin, level);
         if level {
             self.rise(pin);
         } else {

@@ -2,6 +2,7 @@
 ghost use Rattle.std.specs.Prelude.{◌≡◌, true};
 ghost use Rattle.muart.specs.Pulses.{pulse_level, pulsed, single_answer, single_level, first_answer, first_level, begins, second_answer, second_leaves};
 
+use crate::read::take;
 use crate::state::StandIn;
 use levels::Level;
 use refusals::Refusal;
@@ -52,14 +53,7 @@ impl StandIn {
         if self.rest.begun.is_some() {
             return Err(Refusal::AlreadyBegun);
         }
-        self.sensitive
-            .levels
-            .take(
-                &self.rest.mask,
-                self.rest.pins.extint,
-                self.rest.registers.control.nie,
-            )
-            .ok_or(Refusal::InterruptLow)
+        take(&self.rest, &mut self.sensitive).ok_or(Refusal::InterruptLow)
     }
 
     // The single pulse of the 8085 family.

@@ -2,7 +2,7 @@
 ghost use Rattle.std.specs.Prelude.{◌≡◌};
 ghost use Rattle.timers.specs.Access.{counts_of};
 ghost use Rattle.registers.specs.Words.{family_of};
-ghost use Rattle.muart.specs.Reading.{control_byte, status_byte, int_high, reading, read_leaves};
+ghost use Rattle.muart.specs.Reading.{control_byte, status_byte, int_high, ready_level, took, reading, read_leaves};
 ghost use Rattle.muart.specs.State.{with_sensitive};
 
 use crate::state::{Flags, Rest, Sensitive, StandIn};
@@ -23,8 +23,8 @@ pub struct Reading {
 pub fn interrupts(rest: &Rest, sensitive: &Sensitive) -> bool
     ensures { result ≡ int_high rest.now sensitive.now }
 {
-    let levels = &sensitive.levels;
-    levels
+    sensitive
+        .levels
         .due(&rest.mask, rest.pins.extint, rest.registers.control.nie)
         .is_some()
 }
@@ -61,13 +61,21 @@ fn status_byte(int: bool, transmitter: &Transmitter, flags: &Flags) -> u8
     ])
 }
 
+// Takes the ready level, if any.
+pub(crate) fn take(rest: &Rest, sensitive: &mut Sensitive) -> Option<Level>
+    ensures picks { result ≡ ready_level rest.now sensitive.old }
+    ensures after { sensitive.new ≡ took rest.now sensitive.old }
+{
+    sensitive
+        .levels
+        .take(&rest.mask, rest.pins.extint, rest.registers.control.nie)
+}
+
 fn read_interrupt_address(rest: &Rest, sensitive: &mut Sensitive) -> Reading
     ensures answer { result ≡ reading Register.InterruptAddress rest.now sensitive.old }
     ensures after { sensitive.new ≡ read_leaves Register.InterruptAddress rest.now sensitive.old }
 {
-    let taken = sensitive
-        .levels
-        .take(&rest.mask, rest.pins.extint, rest.registers.control.nie);
+    let taken = take(rest, sensitive);
     let byte = taken.as_ref().map_or(255, |level| 4 * level.number());
     Reading { byte, taken }
 }
@@ -119,6 +127,7 @@ pub fn read(rest: &Rest, sensitive: &mut Sensitive, register: Register) -> Readi
 }
 
 impl StandIn {
+    // What a read disturbs is the read-sensitive record alone.
     pub fn read(&mut self, register: Register) -> Reading
         ensures answer { result ≡ reading register self.old.rest self.old.sensitive }
         ensures after { self.new ≡ with_sensitive (read_leaves register self.old.rest self.old.sensitive) self.old }
@@ -126,6 +135,7 @@ impl StandIn {
         read(&self.rest, &mut self.sensitive, register)
     }
 
+    // The level of INT.
     pub fn interrupts(&self) -> bool
         ensures { result ≡ int_high self.now.rest self.now.sensitive }
     {

@@ -55,8 +55,8 @@ pub struct Rest {
 
 #[derive(Clone, Copy)]
 pub struct StandIn {
-    pub(crate) rest: Rest,
-    pub(crate) sensitive: Sensitive,
+    pub rest: Rest,
+    pub sensitive: Sensitive,
 }
 
 impl Model for StandIn {

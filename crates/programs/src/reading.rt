@@ -25,7 +25,7 @@ pub fn read_line<'a, R: Read, const KEPT: usize>(
         }
         line.push(byte)?;
     }
-    Ok(if any { Some(line.bytes()) } else { None })
+    Ok(any.then(|| line.bytes()))
 }
 
 // Hands the lines of the script on standard input to `run`, numbered from 1.

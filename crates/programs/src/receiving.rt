@@ -26,6 +26,7 @@ fn read_waits(rt: &HostRuntime) -> anyhow::Result<Vec<u32>> {
     let mut input = BufReader::new(rt.alloc(), rt.stdin())?;
     let mut buffer = LineBuffer::<WAIT_BYTES>::new(rt.alloc());
     let mut waits = Vec::new(rt.alloc());
+    // Counted, so that the loop is seen to end.
     for _ in 0..u64::MAX {
         let Some(line) = read_line(&mut input, &mut buffer)? else {
             break;

@@ -1,5 +1,5 @@
 -- Directions and levels of the pins.
-use Rattle.std.specs.Prelude.{ℕ, zero, suc, ◌+◌, ◌-◌, ◌^◌, Bool, false, cond, not, ◌&&◌, Some, None, Option, ◌==◌, nat_lt, slice_index_or}
+use Rattle.std.specs.Prelude.{ℕ, zero, suc, ◌+◌, ◌-◌, ◌^◌, Bool, false, cond, not, ◌&&◌, Some, None, Option, ◌==◌, nat_lt, slice_index_or, slice_set}
 use Rattle.registers.specs.declared.held.Registers.{Registers}
 use Rattle.registers.specs.declared.held.Pins.{Pins}
 use Rattle.registers.specs.declared.pins.Pin.{Pin}
@@ -29,6 +29,13 @@ outside p (Port1 n) = slice_index_or p.port1 n false
 outside p (Port2 n) = slice_index_or p.port2 n false
 outside p Cts = p.cts
 outside p Extint = p.extint
+
+-- the outside levels with one pin's set
+abbrev pub set_outside : Pin → Bool → Pins → Pins
+set_outside (Port1 n) v p = record p { port1 = slice_set p.port1 n v }
+set_outside (Port2 n) v p = record p { port2 = slice_set p.port2 n v }
+set_outside Cts v p = record p { cts = v }
+set_outside Extint v p = record p { extint = v }
 
 -- the latch behind a pin
 abbrev pub latch_at : Registers → Pin → Bool

@@ -1,6 +1,6 @@
 // The pins: their directions and levels.
 ghost use Rattle.std.specs.Prelude.{◌≡◌};
-ghost use Rattle.registers.specs.Ports.{used_as_input, is_output, outside, latch_at, level_at, pin_at, port_byte};
+ghost use Rattle.registers.specs.Ports.{used_as_input, is_output, outside, set_outside, latch_at, level_at, pin_at, port_byte};
 
 use crate::held::{Pins, Registers};
 use bits::{Place, bit, weight};
@@ -16,6 +16,7 @@ pub enum Pin {
     Extint,
 }
 
+// A port of eight pins.
 #[derive(Clone, Copy)]
 pub enum Port {
     One,
@@ -64,6 +65,17 @@ impl Pins {
             Pin::Port2(place) => self.port2[place.index()],
             Pin::Cts => self.cts,
             Pin::Extint => self.extint,
+        }
+    }
+
+    pub fn set_outside(&mut self, pin: &Pin, level: bool)
+        ensures { self.new ≡ set_outside pin.now level self.old }
+    {
+        match *pin {
+            Pin::Port1(place) => self.port1[place.index()] = level,
+            Pin::Port2(place) => self.port2[place.index()] = level,
+            Pin::Cts => self.cts = level,
+            Pin::Extint => self.extint = level,
         }
     }
 }

@@ -12,6 +12,7 @@ pub enum Family {
 }
 
 impl Family {
+    // Named for what it reads, and no `From`: a command word says more than the family.
     pub fn selected(command1: u8) -> Family
         ensures { result ≡ family_of command1 }
     {

@@ -5,12 +5,14 @@ ghost use Rattle.serial.specs.Forms.{form_of, parity_of, stops_of, SoundForm, ha
 use crate::rate::bit_ticks;
 use std::marker::Model;
 
+/// How many ones data and parity make.
 #[derive(Clone, Copy)]
 pub enum Parity {
     Even,
     Odd,
 }
 
+/// For how many bits the line stays high at the end.
 #[derive(Clone, Copy)]
 pub enum Stops {
     One,
@@ -21,10 +23,10 @@ pub enum Stops {
 /// How a character is sent: `length` data bits, each bit for `ticks` rate ticks.
 #[derive(Clone, Copy)]
 pub struct Form {
-    length: u8,
-    parity: Option<Parity>,
-    stops: Stops,
-    ticks: u32,
+    pub length: u8,
+    pub parity: Option<Parity>,
+    pub stops: Stops,
+    pub ticks: u32,
 }
 
 impl Model for Form {
@@ -42,6 +44,7 @@ impl Model for Form {
 }
 
 impl Form {
+    /// The form that the two command words give. `of`, here and below, and no `From`: a byte does not say which command it is.
     pub fn of(command1: u8, command2: u8) -> Form
         ensures value { result ≡ form_of command1 command2 }
         ensures sound { SoundForm result }
@@ -106,7 +109,6 @@ impl Form {
     }
 }
 
-// `of`, here and for the stops, and not `From`: a byte does not say which command it is.
 impl Parity {
     fn of(command2: u8) -> Option<Parity>
         ensures { result ≡ parity_of command2 }

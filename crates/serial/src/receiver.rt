@@ -13,16 +13,16 @@ use std::marker::Model;
 /// A frame being received: its form, the data bits gathered so far, the parity bit once sampled, and the ticks to the next sample.
 #[derive(Clone, Copy)]
 pub struct Receiving {
-    form: Form,
-    character: u8,
-    parity: bool,
-    left: u32,
+    pub form: Form,
+    pub character: u8,
+    pub parity: bool,
+    pub left: u32,
 }
 
 /// The stage tells what the next sample will be.
 #[derive(Clone, Copy)]
 pub struct Receiver {
-    state: Stage<Receiving>,
+    pub state: Stage<Receiving>,
 }
 
 impl Model for Receiver {
@@ -40,6 +40,7 @@ impl Model for Receiver {
     ghost inverse = { λ s. record { state = s } };
 }
 
+/// What befalls a receiver.
 #[derive(Clone, Copy)]
 pub enum Event {
     /// RxD fell, with the form that commands give now.
@@ -48,6 +49,7 @@ pub enum Event {
     Tick(bool),
 }
 
+/// What a frame came to.
 #[derive(Clone, Copy)]
 pub enum Reception {
     Break,
@@ -129,7 +131,8 @@ impl Receiver {
 
     /// How many ticks pass before the one that samples.
     pub fn horizon(&self) -> u64
-        ensures { result ≡ quiet_ticks self.now }
+        ensures value { result ≡ quiet_ticks self.now }
+        ensures sound { SoundReceiver self.now }
     {
         self.state.horizon()
     }
@@ -185,6 +188,7 @@ impl Receiving {
         }
     }
 
+    // Not one text with the sender's, which sets its ticks at each of these steps, where a receiver keeps those of its sample.
     fn past_bit(self, place: u8) -> Stage<Receiving>
         requires sound { SoundReceiving self (place + 1) }
         requires place { place < self.form.length }

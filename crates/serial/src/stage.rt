@@ -26,6 +26,7 @@ pub(crate) trait Lasting: Copy {
     ghost left_is_set: { (n : ℕ) (f : Self) → ticks_left (with_left n f) ≡ n };
 }
 
+/// Which part of its frame a transmitter or a receiver is in.
 #[derive(Clone, Copy)]
 pub enum Stage<F> {
     Idle,

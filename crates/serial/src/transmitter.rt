@@ -3,7 +3,7 @@ ghost use Rattle.std.specs.Prelude.{◌≡◌, ℕ, ◌-◌, ◌<◌, ◌≤◌,
 ghost use Rattle.serial.specs.Forms.{SoundForm};
 ghost use Rattle.serial.specs.Laws.{Sends};
 ghost use Rattle.timing.specs.Run.{times};
-ghost use Rattle.serial.specs.Sending.{SoundSending, SoundPhase, begun, ending, fresh, idle, lasting, level, offered, passed, past_bit, past_data, quiet_ticks, released, stopping, ticked, written};
+ghost use Rattle.serial.specs.Sending.{SoundSending, SoundPhase, SoundTransmitter, begun, ending, fresh, idle, lasting, level, offered, passed, past_bit, past_data, quiet_ticks, released, stopping, ticked, written};
 
 use crate::form::Form;
 use crate::stage::{Lasting, Stage};
@@ -13,15 +13,15 @@ use std::marker::Model;
 /// A frame under way: the form it began with, its character, and the ticks left in its phase.
 #[derive(Clone, Copy)]
 pub struct Sending {
-    form: Form,
-    character: u8,
-    left: u32,
+    pub form: Form,
+    pub character: u8,
+    pub left: u32,
 }
 
 #[derive(Clone, Copy)]
 pub struct Transmitter {
-    buffer: Option<u8>,
-    phase: Stage<Sending>,
+    pub buffer: Option<u8>,
+    pub phase: Stage<Sending>,
 }
 
 impl Model for Transmitter {
@@ -133,7 +133,8 @@ impl Transmitter {
 
     /// How many ticks pass with nothing but counting.
     pub fn horizon(&self) -> u64
-        ensures { result ≡ quiet_ticks self.now.phase }
+        ensures value { result ≡ quiet_ticks self.now.phase }
+        ensures sound { SoundTransmitter self.now }
     {
         self.phase.horizon()
     }

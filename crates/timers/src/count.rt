@@ -85,6 +85,7 @@ pub(crate) trait Count: Copy {
     }
 }
 
+// Two impls alike, one for each width: a macro of the repository may write none.
 impl Count for u8 {
     ghost MODULUS = { 256 };
 

@@ -49,7 +49,7 @@ impl Duo {
         self.high.count as u16 * 256 + self.low.count as u16
     }
 
-    // Its inverse, and as private: a `From` would be one more public call.
+    // Its inverse. No `From`, which is no plainer: only this file joins and parts.
     fn parted(value: u16) -> Duo
         ensures { result ≡ parted value }
     {

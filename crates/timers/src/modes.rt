@@ -4,6 +4,7 @@ ghost use Rattle.timers.specs.Stepping.{by_clock, by_edge, reported, even_watch,
 
 use crate::duo::{Drive, Units};
 
+// What the mode word says of the timers.
 #[derive(Clone, Copy)]
 pub struct TimerModes {
     // Timers 2 and 4: T24 and CT2.
@@ -14,6 +15,7 @@ pub struct TimerModes {
     pub t5c: bool,
 }
 
+// How a duo is joined and driven.
 #[derive(Clone, Copy)]
 pub struct DuoModes {
     // The two timers are one counter of 16 bits.
@@ -39,6 +41,7 @@ pub struct Fired {
     pub five: bool,
 }
 
+// A timer by its number.
 #[derive(Clone, Copy)]
 pub enum Number {
     One,

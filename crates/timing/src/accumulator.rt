@@ -26,6 +26,7 @@ impl Model for Ratio {
 }
 
 impl Ratio {
+    // No step is above the modulus.
     pub fn new(step: u32, modulus: u32) -> Ratio
         requires slow { step ≤ modulus }
         requires small { modulus ≤ 2 ^ 30 }

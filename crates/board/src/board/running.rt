@@ -80,7 +80,7 @@ impl<P: Partner> Board<P> {
         steady.min(self.unit.horizon())
     }
 
-    // Many clocks in which no line changes and nothing is recorded.
+    // Many clocks in which no line changes and nothing is recorded. Their bounds are of this call, and no type's.
     fn skip(&mut self, clocks: u64)
         requires short { clocks ≤ 16777216 }
         requires fits { self.old.clock + clocks ≤ last_clock }

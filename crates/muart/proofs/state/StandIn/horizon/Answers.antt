@@ -44,4 +44,4 @@ way c = record {
 }
 
 pub returns : goal.returns
-returns c = rw (← c.self.view_is) (record { value = horizon_value _ _ (way c); still = horizon_still _ _ (way c) })
+returns c = rw (← c.self.view_is) (record { value = horizon_value _ _ (way c); sound = c.self.invariant; still = horizon_still _ _ (way c) })
