@@ -1,5 +1,5 @@
 -- Setting the outside level of a pin.
-use Rattle.std.specs.Prelude.{ℕ, Bool, true, false, cond, Some, None, Ok, Err, Option, Result, ◌==◌, slice_set}
+use Rattle.std.specs.Prelude.{ℕ, Bool, true, false, cond, Some, None, Ok, Err, Option, Result, ◌==◌}
 use Rattle.timers.specs.Stepping.{edge_counted, edge_firing}
 use Rattle.timers.specs.declared.modes.Side.{Side}
 use Rattle.timers.specs.declared.modes.Side.TheVariants.{Even, Odd}
@@ -8,7 +8,6 @@ use Rattle.refusals.specs.declared.refusal.Refusal.{Refusal}
 use Rattle.refusals.specs.declared.refusal.Refusal.TheVariants.{NoSuchPin, OutputPin}
 use Rattle.registers.specs.declared.pins.Pin.{Pin}
 use Rattle.registers.specs.declared.pins.Pin.TheVariants.{Port1, Port2, Cts, Extint}
-use Rattle.registers.specs.declared.held.Pins.{Pins}
 use Rattle.muart.specs.declared.state.StandIn.{StandIn}
 use Rattle.registers.specs.Ports.{pin_of, is_output, outside, set_outside}
 use Rattle.muart.specs.Firing.{modes_of, biti_of, asks}

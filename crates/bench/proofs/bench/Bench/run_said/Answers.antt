@@ -1,6 +1,5 @@
-use Rattle.std.proofs.Common.{◌≡◌, Some, Err, Ok, refl, ap, ◌∙◌, rules}
+use Rattle.std.proofs.Common.{◌≡◌, Err, Ok, ap, ◌∙◌, rules}
 use Rattle.script.specs.Lines.{step, content}
-use Rattle.bench.specs.Operations.{fault_line}
 use Rattle.bench.specs.Benches.{state_of}
 use Rattle.bench.proofs.Printed.{within, step_prints, fault_prints}
 use Rattle.bench.proofs.bench.Bench.run_said.Goals as goal
