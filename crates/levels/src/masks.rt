@@ -8,7 +8,8 @@ use crate::Level;
 use crate::bytes::flags_of;
 use std::array;
 
-// A request is recorded if its level is enabled; nothing changes where it is recorded already.
+// A request is recorded if its level is enabled; nothing changes where it is recorded already. Told by a flag whether one is made:
+// an `if` round each call is no plainer, since five flags of the timers come one after the other.
 #[tactic(auto, using(crate::proofs::Recording::set_same))]
 pub fn request_if(requests: &mut [bool; 8], mask: &[bool; 8], level: Level, on: bool)
     ensures after { requests.new ≡ (if on then request level mask.now requests.old else requests.old) }
@@ -20,7 +21,7 @@ pub fn request_if(requests: &mut [bool; 8], mask: &[bool; 8], level: Level, on: 
     }
 }
 
-// A level that disables itself; nothing changes where it is disabled already.
+// A level that disables itself, if it does, told as above; nothing changes where it is disabled already.
 #[tactic(auto, using(crate::proofs::Recording::set_same))]
 pub fn clear_if(mask: &mut [bool; 8], level: Level, on: bool)
     ensures after { mask.new ≡ (if on then put mask.old level false else mask.old) }

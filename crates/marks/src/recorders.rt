@@ -8,7 +8,8 @@ use crate::services::ServiceMark;
 use crate::wires::WireMark;
 use recorder::Recorder;
 
-/// The recorder of wire marks beside the recorder of service marks.
+/// The recorder of wire marks beside the recorder of service marks. How a call leaves them is said by each call (`BothExtended`, and
+/// `Extended` of one): it relates before and after, which no type says of its values.
 #[derive(Drop)]
 pub struct Recorders<'a> {
     pub wires: Recorder<'a, WireMark>,

@@ -29,7 +29,8 @@ impl fmt::Display for ServiceMark {
     }
 }
 
-/// Marks a level that was taken: with nesting off it was passed.
+/// Marks a level that was taken: with nesting off it was passed. A function on the recorder: as a method of both recorders it is no
+/// plainer, since it would owe that the other stays.
 pub fn mark_taken(
     services: &mut Recorder<'_, ServiceMark>,
     clock: u64,
@@ -50,7 +51,7 @@ pub fn mark_taken(
     }
 }
 
-/// Marks the levels that were closed, lowest first.
+/// Marks the levels that were closed, lowest first. A function on the recorder, likewise.
 pub fn mark_closed(services: &mut Recorder<'_, ServiceMark>, clock: u64, closed: &[bool; 8])
     ensures view { recording services.new ≡ all_marked (closed_marks clock closed.now) (recording services.old) }
     ensures room { Extended services.old services.new }

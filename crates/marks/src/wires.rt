@@ -69,7 +69,7 @@ fn mark_change(
     }
 }
 
-/// A function on the one recorder and no method: a recorder is another crate's type.
+/// A function on the recorder: as a method of both recorders it is no plainer, since it would owe that the other stays.
 /// Marks the lines that changed: TxD, RxD and INT, in that order.
 #[tactic(auto, using(recorder::proofs::Extending::extended_on))]
 pub fn mark_changes(wires: &mut Recorder<'_, WireMark>, clock: u64, before: Lines, after: Lines)

@@ -113,7 +113,8 @@ impl StandIn {
         dividers.prescaler.reach(internals, clock_ratio(registers))
     }
 
-    // Many clocks at once, of which none is past the horizon.
+    // Many clocks at once, of which none is past the horizon. That they are few is asked of this call: no value lasts of which a
+    // type could say it.
     pub fn skip(&mut self, clocks: u64)
         requires still { Still clocks self.old }
         requires short { clocks ≤ 16777216 }

@@ -132,7 +132,7 @@ impl Registers {
     pub fn read_port(&self, pins: &Pins, port: Port) -> u8
         ensures { result ≡ port_byte self.now pins.now port }
     {
-        // No chain: its sum would owe the bound that the loop keeps place by place.
+        // A loop over the places. A chain is no plainer: its sum would owe the bound that the loop keeps place by place.
         let mut byte: u8 = 0;
         for place in 0..8 {
             byte += weight(place, self.level(pins, &port.pin(Place::new(place))));

@@ -12,7 +12,7 @@ pub enum Family {
 }
 
 impl Family {
-    // Named for what it reads, and no `From`: a command word says more than the family.
+    // Named for what it reads. A `From` is no plainer: a command word says more than the family.
     pub fn selected(command1: u8) -> Family
         ensures { result ≡ family_of command1 }
     {

@@ -17,7 +17,7 @@ pub(crate) enum Code {
 }
 
 impl Code {
-    // No `TryFrom`: it reads the start of a line, and there is one way to have no code.
+    // An `Option`, and no `TryFrom`, which is no plainer: it reads the start of a line, and there is one way to have no code.
     pub(crate) fn of(line: &[u8]) -> Option<Code>
         ensures { result ≡ code_of line.now }
     {

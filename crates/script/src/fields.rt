@@ -34,8 +34,8 @@ impl Columns {
         // The digits so far, or nothing before the first.
         let mut number: Option<u64> = None;
         let mut bytes = line.get(self.first as usize - 1..).unwrap_or(&[]).iter();
-        // The column is what a fault names.
-        for column in self.first..self.last + 1 {
+        // The column is counted, since a fault names it. A zip is no plainer: it would end where the line does, with no fault.
+        for column in self.first..=self.last {
             let byte = *bytes.next().ok_or(Fault { column })?;
             if byte.is_ascii_digit() {
                 number = Some(number.unwrap_or(0) * 10 + u64::from(byte - b'0'));

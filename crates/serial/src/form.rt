@@ -44,7 +44,8 @@ impl Model for Form {
 }
 
 impl Form {
-    /// The form that the two command words give. `of`, here and below, and no `From`: a byte does not say which command it is.
+    /// The form that the two command words give. `of`, here and below: a `From` is no
+    /// plainer, since a byte does not say which command it is.
     pub fn of(command1: u8, command2: u8) -> Form
         ensures value { result ≡ form_of command1 command2 }
         ensures sound { SoundForm result }

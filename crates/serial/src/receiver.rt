@@ -60,6 +60,7 @@ pub enum Reception {
     },
 }
 
+// Like the impl for `Sending`: a macro of the repository may write neither.
 impl Lasting for Receiving {
     ghost ticks_left = { λ r. r.left };
 
@@ -138,7 +139,8 @@ impl Receiver {
     }
 }
 
-// How much is gathered depends on the stage, and an enum has no model, so these steps ask for it themselves; a `Receiver` keeps it for its callers.
+// How much is gathered depends on the stage, and an enum has no model. These steps ask for it themselves, which is plainer than a
+// struct for each stage; a `Receiver` keeps it for its callers.
 impl Receiving {
     fn begun(form: Form) -> Receiving
         ensures value { result ≡ begun form }
@@ -188,7 +190,7 @@ impl Receiving {
         }
     }
 
-    // Not one text with the sender's, which sets its ticks at each of these steps, where a receiver keeps those of its sample.
+    // One text with the sender's is no plainer: a sender sets its ticks at each of these steps, a receiver keeps those of its sample.
     fn past_bit(self, place: u8) -> Stage<Receiving>
         requires sound { SoundReceiving self (place + 1) }
         requires place { place < self.form.length }

@@ -158,7 +158,8 @@ impl Transmitter {
     }
 }
 
-// An enum has no model, so these steps say the bounds of a phase themselves; a `Transmitter` keeps them for its callers.
+// An enum has no model. These steps say the bounds of a phase themselves, which is plainer than a struct for each stage; a
+// `Transmitter` keeps them for its callers.
 impl Stage<Sending> {
     fn begun(form: Form, character: u8) -> Stage<Sending>
         ensures value { result ≡ begun form character }

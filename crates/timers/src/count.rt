@@ -50,7 +50,8 @@ pub(crate) trait Count: Copy {
 
     ghost wide: { 1 < MODULUS };
 
-    // One step if the count is on; whether it goes from 1 to 0.
+    // One step if the count is on; whether it goes from 1 to 0. Told by a flag: an `if` round each call is no plainer, since a drive
+    // gives each count its flag.
     #[tactic(auto, using(crate::proofs::Lowering::one_back))]
     final fn step(&mut self, on: bool) -> bool
         ensures tells { result ≡ (on && fires (number self.old)) }

@@ -41,7 +41,8 @@ pub struct Accumulator {
     pub at: u32,
 }
 
-// That the phase is below the modulus stays with the calls: the modulus comes from a register outside, which is written without the phase.
+// That the phase is below the modulus stays with the calls. In the type it is no plainer: the modulus comes from a register
+// outside, which is written without the phase, so the phase would keep a second modulus beside it.
 impl Accumulator {
     // One step; whether it wraps.
     pub fn advance(&mut self, ratio: Ratio) -> bool

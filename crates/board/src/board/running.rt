@@ -96,7 +96,7 @@ impl<P: Partner> Board<P> {
         self.partner.advance(clocks);
     }
 
-    // Skips up to where something can happen, runs that clock, and goes on.
+    // Skips up to where something can happen, runs that clock, and goes on. What it asks is of this call, and of no value that lasts.
     pub(super) fn run(&mut self, clocks: u64, wires: &mut Recorder<'_, WireMark>)
         requires short { clocks ≤ 16777216 }
         requires fits { self.old.clock + clocks ≤ last_clock }
