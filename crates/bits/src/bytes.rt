@@ -1,4 +1,4 @@
-// A bit of a byte.
+// A bit of a byte. The place is a number, asked to be below 8: a `Place` is no plainer, since most calls give a literal.
 ghost use Rattle.std.specs.Prelude.{◌≡◌, ◌/◌, ◌%◌, ◌^◌, ◌<◌, ◌==◌, if◌then◌else◌};
 
 /// Whether the byte has a 1 at the place, the lowest being 0.

@@ -198,6 +198,7 @@ impl Stage<Sending> {
 }
 
 impl Sending {
+    // The place comes from a stage, which holds a number: a `Place` there is no plainer, since the character's length bounds it too.
     fn past_bit(self, place: u8) -> Stage<Sending>
         requires { place < 8 }
         ensures value { result ≡ past_bit self place }

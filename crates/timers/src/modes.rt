@@ -78,7 +78,7 @@ impl Fired {
         }
     }
 
-    // Not one function of the side, which it would only match on: the even pair requests as its high timer, the odd one as its low timer.
+    // Not one function of the side, which is no plainer, since it would only match on it: the even pair requests as its high timer, the odd one as its low timer.
     pub(crate) fn even_units(self) -> Units
         ensures { result ≡ even_watch self }
     {
