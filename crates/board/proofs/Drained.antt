@@ -366,7 +366,7 @@ ran_eight (c ∷ h) s e = ran_eight h (after c s) (call_eight s.board e c)
 abbrev Standing : ℕ → List Bool → List Bool → StandIn → Type 0
 Standing c q ss u =
     (u.rest.registers.control.nie ≡ true) × (u.rest.pins.extint ≡ false) × (u.rest.registers.command1 ≡ c)
-    × (set u.sensitive.levels.requests 2 false ≡ q) × (u.sensitive.levels.service ≡ ss)
+    × (set (u.sensitive.levels.requests) 2 false ≡ q) × (u.sensitive.levels.service ≡ ss)
 
 settled_standing : (c : ℕ) (q ss : List Bool) (txd : Bool) (v : View) → Standing c q ss v.unit → Standing c q ss (settled txd v).unit
 settled_standing c q ss txd v h = subst (Standing c q ss) (sym (settled_bared txd v)) h
@@ -380,7 +380,7 @@ abbrev opened : Option ℕ → List Bool → List Bool
 opened None ss = ss
 opened (Some l) ss = set ss l true
 
-took_requests : (o : Option ℕ) (p : Pending) (q : List Bool) → set p.requests 2 false ≡ q → set (taken o p true).requests 2 false ≡ dropped o q
+took_requests : (o : Option ℕ) (p : Pending) (q : List Bool) → set (p.requests) 2 false ≡ q → set ((taken o p true).requests) 2 false ≡ dropped o q
 took_requests None p q e = e
 took_requests (Some l) p q e = clear_both p.requests l 2 ∙ ap (λ t. set t l false) e
 
@@ -430,7 +430,7 @@ module _ (c : ℕ) (q ss : List Bool) (l : Latched) (v : View) (h : Standing c q
       let t : taken (ready_level v.unit.rest v.unit.sensitive) p v.unit.rest.registers.control.nie ≡ taken o p true = λ i. taken (ready_is i) p (h.0 i) in
       subst (λ r. Standing c (dropped o q) (opened o ss) (call_ended v (read_effect r v)).unit) (sym (strobe_is InterruptAddress k))
       (settled_standing c (dropped o q) (opened o ss) (txd_level v.unit) _
-      (h.0, h.1, h.2, ap (λ x. set x.requests 2 false) t ∙ took_requests o p q h.3, ap (λ x. x.service) t ∙ took_service o p ss h.4))
+      (h.0, h.1, h.2, ap (λ x. set (x.requests) 2 false) t ∙ took_requests o p q h.3, ap (λ x. x.service) t ∙ took_service o p ss h.4))
 
 module _ (c : ℕ) where
   abbrev Ends : Latched → Type 0

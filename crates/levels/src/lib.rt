@@ -10,7 +10,7 @@ mod priority;
 
 pub use bytes::{byte_of, flags_of};
 pub use closing::{close_all, end};
-pub use masks::{clear_if, difference, disable, enable, request_if};
+pub use masks::{clear, difference, disable, enable, request};
 pub use pending::Pending;
 pub use priority::{ready, requesting};
 

@@ -1,35 +1,32 @@
 // The mask of enabled levels: what it lets be recorded, and the words that change it.
-ghost use Rattle.std.specs.Prelude.{◌≡◌, false, ◌&&◌, set as put, if◌then◌else◌, slice_index_or};
+ghost use Rattle.std.specs.Prelude.{◌≡◌, true, false, set as put, slice_index_or};
 ghost use Rattle.levels.specs.Bytes.{flags};
 ghost use Rattle.levels.specs.Sets.{union, minus};
-ghost use Rattle.levels.specs.Levels.{request, fresh};
+ghost use Rattle.levels.specs.Levels.{request as requested, fresh};
 
 use crate::Level;
 use crate::bytes::flags_of;
 use std::array;
 
-// A request is recorded if its level is enabled; nothing changes where it is recorded already. Told by a flag whether one is made:
-// an `if` round each call is no plainer, since five flags of the timers come one after the other.
+// A request is recorded if its level is enabled; nothing changes where it is recorded already.
 #[tactic(auto, using(crate::proofs::Recording::set_same))]
-pub fn request_if(requests: &mut [bool; 8], mask: &[bool; 8], level: Level, on: bool)
-    ensures after { requests.new ≡ (if on then request level mask.now requests.old else requests.old) }
-    ensures kept { fresh on level mask.now requests.old ≡ false → requests.new ≡ requests.old }
+pub fn request(requests: &mut [bool; 8], mask: &[bool; 8], level: Level)
+    ensures after { requests.new ≡ requested level mask.now requests.old }
+    ensures kept { fresh true level mask.now requests.old ≡ false → requests.new ≡ requests.old }
 {
     let place = level.index();
-    if on && mask[place] {
+    if mask[place] {
         requests[place] = true;
     }
 }
 
-// A level that disables itself, if it does, told as above; nothing changes where it is disabled already.
+// One level is disabled, and its request stays; nothing changes where it is disabled already.
 #[tactic(auto, using(crate::proofs::Recording::set_same))]
-pub fn clear_if(mask: &mut [bool; 8], level: Level, on: bool)
-    ensures after { mask.new ≡ (if on then put mask.old level false else mask.old) }
-    ensures kept { (on && slice_index_or mask.old level false) ≡ false → mask.new ≡ mask.old }
+pub fn clear(mask: &mut [bool; 8], level: Level)
+    ensures after { mask.new ≡ put mask.old level false }
+    ensures kept { slice_index_or mask.old level false ≡ false → mask.new ≡ mask.old }
 {
-    if on {
-        mask[level.index()] = false;
-    }
+    mask[level.index()] = false;
 }
 
 // An enable word sets its 1 bits in the mask.

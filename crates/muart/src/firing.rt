@@ -1,6 +1,7 @@
 // What the timers that step from 1 to 0 do to the levels.
-ghost use Rattle.std.specs.Prelude.{◌≡◌};
-ghost use Rattle.muart.specs.Firing.{modes_of, biti_of, asks as asked, recorded, heeded as is_heeded, watched as timers_watched};
+ghost use Rattle.std.specs.Prelude.{◌≡◌, true};
+ghost use Rattle.muart.specs.Firing.{modes_of, biti_of, asks as asked, fired_mask, recorded, heeded as is_heeded, watched as timers_watched};
+ghost use Rattle.muart.specs.State.{with_mask};
 
 use crate::state::StandIn;
 use bits::bit;
@@ -32,33 +33,46 @@ impl StandIn {
         bit(self.rest.registers.command1, 2)
     }
 
-    // If it asks and is enabled, the level requests.
-    pub(crate) fn request(&mut self, level: Level, asks: bool)
-        ensures { self.new ≡ asked asks level self.old }
+    // The level requests, if it is enabled.
+    pub(crate) fn request(&mut self, level: Level)
+        ensures { self.new ≡ asked true level self.old }
     {
-        levels::request_if(
-            &mut self.sensitive.levels.requests,
-            &self.rest.mask,
-            level,
-            asks,
-        );
+        levels::request(&mut self.sensitive.levels.requests, &self.rest.mask, level);
     }
 
-    // Each requests its level; under T5C the request of timer 5, or of its pair, disables the level.
+    // Each timer requests its level; under T5C that of timer 5, or of its pair, disables the level.
     pub fn record_fired(&mut self, fired: Fired)
         ensures { self.new ≡ recorded fired self.old }
     {
+        if fired.one {
+            self.request(Level::new(0));
+        }
+        if fired.two && !self.biti() {
+            self.request(Level::new(1));
+        }
+        if fired.three {
+            self.request(Level::new(3));
+        }
+        if fired.four {
+            self.request(Level::new(6));
+        }
+        if fired.five {
+            self.request(Level::new(7));
+        }
+        self.disable_own(fired);
+    }
+
+    fn disable_own(&mut self, fired: Fired)
+        ensures { self.new ≡ with_mask (fired_mask self.old.rest.registers fired self.old.rest.mask) self.old }
+    {
         let modes = self.timer_modes();
-        let biti = self.biti();
-        self.request(Level::new(0), fired.one);
-        self.request(Level::new(1), fired.two && !biti);
-        self.request(Level::new(3), fired.three);
-        self.request(Level::new(6), fired.four);
-        self.request(Level::new(7), fired.five);
-        if modes.odd.joined {
-            levels::clear_if(&mut self.rest.mask, Level::new(3), modes.t5c && fired.three);
+        let (level, fires) = if modes.odd.joined {
+            (3, fired.three)
         } else {
-            levels::clear_if(&mut self.rest.mask, Level::new(7), modes.t5c && fired.five);
+            (7, fired.five)
+        };
+        if modes.t5c && fires {
+            levels::clear(&mut self.rest.mask, Level::new(level));
         }
     }
 

@@ -20,7 +20,7 @@ impl StandIn {
         let fired = match place.number() {
             2 => self.rest.timers.count_edge(Side::Even, modes),
             3 => self.rest.timers.count_edge(Side::Odd, modes),
-            7 => return self.request(Level::new(1), self.biti()),
+            7 if self.biti() => return self.request(Level::new(1)),
             _ => return,
         };
         self.record_fired(fired);

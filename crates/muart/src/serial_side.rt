@@ -26,8 +26,9 @@ impl StandIn {
     {
         let form = self.form();
         let cts = self.rest.pins.cts;
-        let asks = self.rest.serial.transmitter.tick(form, cts);
-        self.request(Level::new(5), asks);
+        if self.rest.serial.transmitter.tick(form, cts) {
+            self.request(Level::new(5));
+        }
     }
 
     fn keep(&mut self, reception: Reception)
@@ -48,7 +49,7 @@ impl StandIn {
                 self.rest.serial.received = character;
             }
         }
-        self.request(Level::new(4), true);
+        self.request(Level::new(4));
     }
 
     fn tick_receiver(&mut self)
@@ -87,8 +88,9 @@ impl StandIn {
     {
         let form = self.form();
         let cts = self.rest.pins.cts;
-        let asks = self.rest.serial.transmitter.write(character, form, cts);
-        self.request(Level::new(5), asks);
+        if self.rest.serial.transmitter.write(character, form, cts) {
+            self.request(Level::new(5));
+        }
     }
 
     // CTS fell: a waiting character may load.
@@ -96,7 +98,8 @@ impl StandIn {
         ensures after { self.new ≡ cts_fell self.old }
     {
         let form = self.form();
-        let asks = self.rest.serial.transmitter.release(form);
-        self.request(Level::new(5), asks);
+        if self.rest.serial.transmitter.release(form) {
+            self.request(Level::new(5));
+        }
     }
 }

@@ -1,14 +1,13 @@
 -- What n steps of a timer and of a duo come to.
-use Rattle.std.proofs.Common.{◌≡◌, ℕ, zero, suc, ◌<◌, Bool, true, false, sym, refl, ap, ◌∙◌, arith}
+use Rattle.std.proofs.Common.{◌≡◌, ℕ, zero, suc, ◌<◌, Bool, true, false, cond, sym, refl, ap, ◌∙◌, arith}
 use Rattle.std.proofs.lemmas.Nat.{div-mul-add, mod-mul-add, div-add-mod', mod_below}
 use Rattle.timing.specs.Run.{times, when}
 use Rattle.timing.proofs.Repeats.{times_still}
 use Rattle.timers.specs.declared.timer.Timer.{Timer}
 use Rattle.timers.specs.declared.duo.Duo.{Duo}
-use Rattle.timers.specs.declared.duo.Drive.TheVariants.{Apart}
-use Rattle.timers.specs.Counts.{lowered, ticked, lapsed}
-use Rattle.timers.specs.Duos.{value_of, parted, pair_ticked, pair_lapsed, duo_stepped}
-use Rattle.timers.proofs.Lowering.{times_lowered}
+use Rattle.timers.specs.declared.duo.Drive.TheVariants.{Apart, Joined}
+use Rattle.timers.specs.Counts.{lowered, ticked}
+use Rattle.timers.specs.Duos.{value_of, parted, pair_ticked, duo_stepped}
 
 -- A timer goes as its count does.
 pub ticked_times : (n : ℕ) (on : Bool) (t : Timer) → times n (when on ticked) t ≡ record { count = times n (when on (lowered 256)) t.count }
@@ -37,27 +36,29 @@ pair_low zero on d h = h
 pair_low (suc n) true d h = pair_low n true (pair_ticked d) (mod_below (lowered 65536 (value_of d)) 256 (omega arith))
 pair_low (suc n) false d h = pair_low n false d h
 
-pub pair_times : (n : ℕ) (on : Bool) (d : Duo) → d.low.count < 256 → times n (when on pair_ticked) d ≡ parted (times n (when on (lowered 65536)) (value_of d))
-pair_times n on d h = sym (parted_value (times n (when on pair_ticked) d) (pair_low n on d h)) ∙ ap parted (pair_value n on d)
-
 -- Apart, each timer goes its own way.
+apart_timers : (n : ℕ) (l h : Bool) (d : Duo) → times n (duo_stepped (Apart l h)) d ≡ record { low = times n (when l ticked) d.low; high = times n (when h ticked) d.high }
+apart_timers zero l h d = refl
+apart_timers (suc n) l h d = apart_timers n l h (duo_stepped (Apart l h) d)
+
 pub apart_times : (n : ℕ) (l h : Bool) (d : Duo)
     → times n (duo_stepped (Apart l h)) d
     ≡ record { low = record { count = times n (when l (lowered 256)) d.low.count }; high = record { count = times n (when h (lowered 256)) d.high.count } }
-apart_times n l h d = each n d ∙ (λ i. record { low = ticked_times n l d.low i; high = ticked_times n h d.high i })
-  where
-    each : (n : ℕ) (d : Duo) → times n (duo_stepped (Apart l h)) d ≡ record { low = times n (when l ticked) d.low; high = times n (when h ticked) d.high }
-    each zero d = refl
-    each (suc n) d = each n (duo_stepped (Apart l h) d)
+apart_times n l h d = apart_timers n l h d ∙ (λ i. record { low = ticked_times n l d.low i; high = ticked_times n h d.high i })
 
--- n steps at once: of a timer, and of a duo that is joined.
-pub timer_lapsed : (n : ℕ) (on : Bool) (t : Timer) → t.count < 256 → times n (when on ticked) t ≡ when on (lapsed n) t
-timer_lapsed n true t h = ticked_times n true t ∙ (let e = times_lowered 256 n t.count h in λ i. record { count = e i })
-timer_lapsed n false t h = times_still n ticked t
+-- Each timer lapses or stays.
+timer_at_once : (n : ℕ) (on : Bool) (t : Timer) → times n (when on ticked) t ≡ record { count = cond on (times n (lowered 256) t.count) t.count }
+timer_at_once n true t = ticked_times n true t
+timer_at_once n false t = times_still n ticked t
 
--- Two bytes make a joined count.
-pub value_below : (d : Duo) → d.low.count < 256 → d.high.count < 256 → value_of d < 65536
-value_below d l h = omega arith
+pub apart_at_once : (n : ℕ) (l h : Bool) (d : Duo)
+    → times n (duo_stepped (Apart l h)) d
+    ≡ record { low = record { count = cond l (times n (lowered 256) d.low.count) d.low.count }; high = record { count = cond h (times n (lowered 256) d.high.count) d.high.count } }
+apart_at_once n l h d = apart_timers n l h d ∙ (λ i. record { low = timer_at_once n l d.low i; high = timer_at_once n h d.high i })
 
-pub pair_lapsed_lem : (n : ℕ) (d : Duo) → d.low.count < 256 → d.high.count < 256 → times n pair_ticked d ≡ pair_lapsed n d
-pair_lapsed_lem n d l h = pair_times n true d l ∙ ap parted (times_lowered 65536 n (value_of d) (value_below d l h))
+-- Joined, the two go as their joined count does, or stay.
+pub joined_on : (n : ℕ) (d : Duo) → d.low.count < 256 → times n (duo_stepped (Joined true)) d ≡ parted (times n (lowered 65536) (value_of d))
+joined_on n d h = sym (parted_value (times n (when true pair_ticked) d) (pair_low n true d h)) ∙ ap parted (pair_value n true d)
+
+pub joined_off : (n : ℕ) (d : Duo) → times n (duo_stepped (Joined false)) d ≡ d
+joined_off n d = times_still n pair_ticked d

@@ -2,8 +2,7 @@
 use Rattle.std.proofs.Common.{◌≡◌, ℕ, zero, suc, ◌+◌, ◌-◌, ◌*◌, ◌/◌, ◌%◌, ◌<◌, Bool, true, false, cond, eqb, leb, sym, refl, ap, ◌∙◌, mod-lt, mod-eq_of_lt, suc-mul, div-add-mod', zero-mul, arith}
 use native.Mathlib.Nat.{add-mul-mod_self_right}
 use Rattle.std.proofs.lemmas.Bool.Decides.{nat_tests}
-use Rattle.timing.specs.Run.{times, when}
-use Rattle.timing.proofs.Repeats.{times_still}
+use Rattle.timing.specs.Run.{times}
 use Rattle.timers.specs.Counts.{lowered, fires, distance, fires_within, behind}
 
 module _ (m : ℕ) where
@@ -41,14 +40,6 @@ module _ (m : ℕ) where
 
   pub one_back : (c : ℕ) → c < m → behind m 1 c ≡ lowered m c
   one_back c h = sym (times_lowered 1 c h)
-
-  -- The same of a count that may be off.
-  pub steps_when : (n : ℕ) (on : Bool) (c : ℕ) → c < m → times n (when on (lowered m)) c ≡ when on (behind m n) c
-  steps_when n true c h = times_lowered n c h
-  steps_when n false c h = times_still n (lowered m) c
-
-  pub steps_off : (n : ℕ) (on : Bool) (c : ℕ) → on ≡ false → c ≡ times n (when on (lowered m)) c
-  steps_off n on c e = rw e (sym (times_still n (lowered m) c))
 
   -- A request falls within n steps exactly if the distance to zero is passed.
   pub fires_within_lem : (n c : ℕ) → 1 < m → c < m → fires_within m n c ≡ leb (distance m c) n

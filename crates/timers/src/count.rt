@@ -50,30 +50,24 @@ pub(crate) trait Count: Copy {
 
     ghost wide: { 1 < MODULUS };
 
-    // One step if the count is on; whether it goes from 1 to 0. Told by a flag: an `if` round each call is no plainer, since a drive
-    // gives each count its flag.
+    // One step; whether it goes from 1 to 0.
     #[tactic(auto, using(crate::proofs::Lowering::one_back))]
-    final fn step(&mut self, on: bool) -> bool
-        ensures tells { result ≡ (on && fires (number self.old)) }
-        ensures state { number self.new ≡ when on (lowered MODULUS) (number self.old) }
+    final fn step(&mut self) -> bool
+        ensures tells { result ≡ fires (number self.old) }
+        ensures state { number self.new ≡ lowered MODULUS (number self.old) }
     {
-        if !on {
-            return false;
-        }
         let fired = self.number() == 1;
         *self = self.back(1);
         fired
     }
 
     // n steps at once.
-    #[tactic(auto, using(crate::proofs::Lowering::steps_when, crate::proofs::Lowering::steps_off))]
-    final fn skip(&mut self, n: u64, on: bool)
-        ensures state { number self.new ≡ times n (when on (lowered MODULUS)) (number self.old) }
-        ensures modulo { number self.new ≡ when on (behind MODULUS n) (number self.old) }
+    #[tactic(auto, using(crate::proofs::Lowering::times_lowered))]
+    final fn skip(&mut self, n: u64)
+        ensures state { number self.new ≡ times n (lowered MODULUS) (number self.old) }
+        ensures modulo { number self.new ≡ behind MODULUS n (number self.old) }
     {
-        if on {
-            *self = self.back(n);
-        }
+        *self = self.back(n);
     }
 
     // The steps before the one in which the count requests, where it is on and watched.

@@ -70,13 +70,13 @@ impl Duo {
     {
         match drive {
             Drive::Apart { low, high } => Units {
-                low: self.low.count.step(low),
-                high: self.high.count.step(high),
+                low: low && self.low.count.step(),
+                high: high && self.high.count.step(),
                 pair: false,
             },
             Drive::Joined { on } => {
                 let mut value = self.value();
-                let pair = value.step(on);
+                let pair = on && value.step();
                 *self = Duo::parted(value);
                 Units {
                     pair,
@@ -87,21 +87,26 @@ impl Duo {
     }
 
     // n steps at once.
-    #[tactic(auto, using(crate::proofs::Laps::apart_times))]
+    #[tactic(auto, using(crate::proofs::Laps::apart_at_once, crate::proofs::Laps::joined_on, crate::proofs::Laps::joined_off))]
     pub(crate) fn skip(&mut self, n: u64, drive: Drive)
         ensures state { self.new ≡ times n (duo_stepped drive) self.old }
         ensures modulo { self.new ≡ duo_lapsed drive n self.old }
     {
         match drive {
             Drive::Apart { low, high } => {
-                self.low.count.skip(n, low);
-                self.high.count.skip(n, high);
+                if low {
+                    self.low.count.skip(n);
+                }
+                if high {
+                    self.high.count.skip(n);
+                }
             }
-            Drive::Joined { on } => {
+            Drive::Joined { on: true } => {
                 let mut value = self.value();
-                value.skip(n, on);
+                value.skip(n);
                 *self = Duo::parted(value);
             }
+            Drive::Joined { on: false } => {}
         }
     }
 

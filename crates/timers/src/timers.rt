@@ -40,7 +40,7 @@ impl Timers {
         ensures state { self.new ≡ stepped modes self.old }
     {
         let drive = modes.odd.clock(self.trigger.resting);
-        let one = self.one.count.step(true);
+        let one = self.one.count.step();
         let even = self.even.step(modes.even.clock(false));
         let odd = self.odd.step(drive);
         Fired::new(one, even, odd)
@@ -53,7 +53,7 @@ impl Timers {
         ensures modulo { self.new ≡ all_lapsed modes n self.old }
     {
         let drive = modes.odd.clock(self.trigger.resting);
-        self.one.count.skip(n, true);
+        self.one.count.skip(n);
         self.even.skip(n, modes.even.clock(false));
         self.odd.skip(n, drive);
     }
