@@ -1,3 +1,4 @@
+mod Listing
 mod Printed
 mod ScriptHistory
 mod Shortened

@@ -1,3 +1,4 @@
+pub mod Listings
 pub mod Operations
 pub mod Scripts
 pub mod Benches

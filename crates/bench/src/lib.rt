@@ -5,5 +5,6 @@
 mod bench;
 mod operations;
 mod runner;
+mod scripts;
 
 pub use bench::Bench;

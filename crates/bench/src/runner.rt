@@ -16,7 +16,7 @@ use refusals::Refusal;
 use script::{Fault, Item, parse};
 
 // A script has no more lines than the listing's first five columns can number.
-const LAST_LINE: u32 = 99_999;
+pub(crate) const LAST_LINE: u32 = 99_999;
 
 // An answer as the columns show it, a refusal by its number.
 fn shown(answer: Result<u8, Refusal>) -> Result<u8, u8>

@@ -4,9 +4,8 @@
 
 mod lister;
 mod marks_printer;
-mod reading;
 mod receiving;
 
-pub use lister::list;
-pub use marks_printer::print_marks;
+pub use lister::{list, list_script};
+pub use marks_printer::{print_marks, print_script_marks};
 pub use receiving::print_received;

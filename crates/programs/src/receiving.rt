@@ -1,6 +1,5 @@
 // A board over a recorded line: the waits of a sender's waveform on standard input, the characters received on standard
 // output.
-use crate::reading::read_line;
 use anyhow::anyhow;
 use board::Board;
 use line::{Partner, Recorded};
@@ -28,7 +27,7 @@ fn read_waits(rt: &HostRuntime) -> anyhow::Result<Vec<u32>> {
     let mut waits = Vec::new(rt.alloc());
     // Counted, so that the loop is seen to end.
     for _ in 0..u64::MAX {
-        let Some(line) = read_line(&mut input, &mut buffer)? else {
+        let Some(line) = buffer.read_line(&mut input)? else {
             break;
         };
         let Ok(text) = str::from_utf8(line) else {

@@ -1,2 +1,4 @@
+pub mod Cutting
+pub mod Gathering
 mod Reading
 pub mod Start

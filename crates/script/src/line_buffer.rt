@@ -2,6 +2,7 @@
 use std::marker::Model;
 
 mod filling;
+mod reading;
 
 /// Holds the first `KEPT` bytes of a line; memory stays bounded however long the line is.
 #[derive(Drop)]
