@@ -5,7 +5,7 @@ use native.Mathlib.Nat.{div-div-eq-div-mul}
 use Rattle.std.proofs.lemmas.List.{at_drop_more, at_drop_all}
 use Rattle.std.proofs.lemmas.Bool.{eq-eqb, ne_eqb}
 use Rattle.std.proofs.lemmas.Bool.Decides.{nat_tests}
-use Rattle.levels.specs.Bytes.{odd, flags, byte}
+use Rattle.bits.specs.Bytes.{odd, flags, byte}
 
 weighed : (n : ℕ) → cond (odd n) 1 0 ≡ n % 2
 weighed n = grind (arith, nat_tests)
@@ -61,10 +61,7 @@ place_more s i h =
     ∙ weighs (get_or s i false) (2 ^ i) (byte (drop (i + 1) s))
     ∙ ap (λ w. cond (get_or s i false) (2 ^ i) 0 + w * byte (drop (i + 1) s)) (grind (arith, pow-suc 2 i, add-one))
 
--- a loop that adds what each place weighs: its start, a step of it and its end
-pub adds_none : (s : List Bool) → 0 + 2 ^ 0 * byte (drop 0 s) ≡ byte s
-adds_none s = omega arith
-
+-- a loop that adds what each place weighs: a step of it and its end
 pub adds_more : (s : List Bool) (i b v : ℕ) → i < length s → b + 2 ^ i * byte (drop i s) ≡ byte s
     → v ≡ cond (get_or s i false) (2 ^ i) 0 → b + v + 2 ^ (i + 1) * byte (drop (i + 1) s) ≡ byte s
 adds_more s i b v h e k = omega (arith, place_more s i h)

@@ -1,10 +1,7 @@
 use Rattle.std.proofs.Common.{arith, ap, ◌∙◌}
-use Rattle.levels.specs.Bytes.{flags}
-use Rattle.levels.proofs.Packing.{adds_none, adds_more, adds_all, adds_within, flags_byte}
-use Rattle.levels.proofs.bytes.byte_of.Goals as goal
-
-pub loop-place-init : goal.loop-place-init
-loop-place-init c = adds_none c.args.set.now
+use Rattle.bits.specs.Bytes.{flags}
+use Rattle.bits.proofs.Packing.{adds_more, adds_all, adds_within, flags_byte}
+use Rattle.bits.proofs.flags.byte_of.Goals as goal
 
 pub overflow_add-byte : goal.overflow_add-byte
 overflow_add-byte c =
