@@ -57,7 +57,7 @@ impl Port {
 }
 
 impl Pins {
-    // The level last set from outside. A match of its own beside `set_outside`: a place lent to write in would not serve a read.
+    // The level last set from outside. It and `set_outside` are two matches: a place lent to write in would not serve a read.
     pub fn outside_level(&self, pin: &Pin) -> bool
         ensures { result ≡ outside self.now pin.now }
     {
