@@ -20,6 +20,7 @@ impl Model for Place {
     ghost inverse = { λ number. record { number = number } };
 }
 
+// `number` and `index` are no `From`s: they also tell that the number is below 8.
 impl Place {
     /// The place of a number below 8.
     pub fn new(number: u8) -> Place

@@ -10,7 +10,7 @@ use Rattle.timing.proofs.Repeats.{times_suc}
 use Rattle.levels.specs.Sets.{lowest, levels, below, ended, paired}
 use Rattle.levels.proofs.Stack.{closes, Clears, clears}
 use Rattle.levels.specs.Levels.{taken, ready, requesting, Closed}
-use Rattle.levels.specs.Bytes.{flags}
+use Rattle.bits.specs.Bytes.{flags}
 use Rattle.levels.specs.declared.pending.Pending.{Pending}
 use Rattle.timers.specs.declared.timers.Timers.{Timers}
 use Rattle.timers.specs.declared.modes.Fired.{Fired}

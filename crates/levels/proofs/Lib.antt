@@ -2,4 +2,3 @@ pub mod Lowest
 pub mod Stack
 pub mod Recording
 pub mod Meeting
-pub mod Packing

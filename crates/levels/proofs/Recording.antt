@@ -1,18 +1,12 @@
 -- Where recording a request, or disabling a level, changes nothing.
 use Rattle.std.proofs.Common.{◌≡◌, ℕ, Bool, true, false, cond, not, ◌&&◌, List, get_or, set, sym, refl, ap, ◌∙◌}
 use lib.Seq.{set-get_or}
-use Rattle.std.proofs.lemmas.Bool.{both_ways, cond_both}
+use Rattle.std.proofs.lemmas.Bool.{both_ways}
 use Rattle.levels.specs.Levels.{request, fresh}
 
 -- a place that is set to what it holds
 pub set_same : (s : List Bool) (i : ℕ) (b : Bool) → get_or s i false ≡ b → set s i b ≡ s
 set_same s i b e = ap (λ v. set s i v) (sym e) ∙ set-get_or s i false
-
--- a request that is recorded already
-pub requested_already : (level : ℕ) (mask requests : List Bool) → get_or requests level false ≡ true → request level mask requests ≡ requests
-requested_already level mask requests e =
-    cond_both (get_or mask level false) (set requests level true) requests (λ x. x ≡ requests)
-    (λ _. set_same requests level true e) (λ _. refl)
 
 -- a request that is not made, or not enabled, or recorded already
 pub not_fresh : (on : Bool) (level : ℕ) (mask requests : List Bool) → fresh on level mask requests ≡ false

@@ -1,3 +1,2 @@
 pub mod Sets
 pub mod Levels
-pub mod Bytes

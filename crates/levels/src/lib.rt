@@ -2,13 +2,11 @@
 
 #![tactic(auto)]
 
-mod bytes;
 mod closing;
 mod masks;
 mod pending;
 mod priority;
 
-pub use bytes::{byte_of, flags_of};
 pub use closing::{close_all, end};
 pub use masks::{clear, difference, disable, enable, request};
 pub use pending::Pending;

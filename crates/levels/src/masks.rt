@@ -1,11 +1,11 @@
 // The mask of enabled levels: what it lets be recorded, and the words that change it.
 ghost use Rattle.std.specs.Prelude.{◌≡◌, true, false, set as put, slice_index_or};
-ghost use Rattle.levels.specs.Bytes.{flags};
+ghost use Rattle.bits.specs.Bytes.{flags};
 ghost use Rattle.levels.specs.Sets.{union, minus};
 ghost use Rattle.levels.specs.Levels.{request as requested, fresh};
 
 use crate::Level;
-use crate::bytes::flags_of;
+use bits::flags_of;
 use std::array;
 
 // A request is recorded if its level is enabled; nothing changes where it is recorded already.

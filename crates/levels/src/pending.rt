@@ -5,21 +5,17 @@ ghost use Rattle.levels.specs.Levels.{due, taken, Opened};
 use crate::Level;
 use crate::priority::{ready, requesting};
 
-#[derive(Clone, Copy)]
+#[derive(Clone, Copy, Default)]
 pub struct Pending {
     pub requests: [bool; 8],
     pub service: [bool; 8],
 }
 
 impl Pending {
-    // No derived `Default`: its clause speaks of each flag, and the proof did not get the two lists of eight from it.
     pub fn new() -> Pending
         ensures { result ≡ record { requests = replicate 8 false; service = replicate 8 false } }
     {
-        Pending {
-            requests: [false; 8],
-            service: [false; 8],
-        }
+        Pending::default()
     }
 
     // The level that taking picks.

@@ -1,6 +1,6 @@
 -- The status byte as the sum of what its bits are worth.
 use Rattle.std.proofs.Common.{◌≡◌, ℕ, ◌*◌, Bool, true, false, cond, not, is_some, [], ◌∷◌, arith}
-use Rattle.levels.specs.Bytes.{byte}
+use Rattle.bits.specs.Bytes.{byte}
 use Rattle.serial.specs.declared.transmitter.Transmitter.{Transmitter}
 use Rattle.serial.specs.Sending.{idle}
 use Rattle.muart.specs.declared.state.Flags.{Flags}

@@ -1,7 +1,7 @@
 -- What the registers read, and what reading them disturbs.
 use Rattle.std.specs.Prelude.{ℕ, ◌+◌, ◌*◌, Bool, false, cond, not, is_some, Some, None, Option}
 use Rattle.levels.specs.Levels.{due, taken}
-use Rattle.levels.specs.Bytes.{byte}
+use Rattle.bits.specs.Bytes.{byte}
 use Rattle.timers.specs.Access.{count_of}
 use Rattle.serial.specs.declared.transmitter.Transmitter.{Transmitter}
 use Rattle.serial.specs.Sending.{idle}

@@ -1,7 +1,7 @@
 -- What writing a register does.
 use Rattle.std.specs.Prelude.{ℕ, Bool, true, false, cond, not, ◌&&◌, List, replicate, None, Ok, Err, Result, ◌==◌}
 use Rattle.levels.specs.Sets.{union, minus, ended}
-use Rattle.levels.specs.Bytes.{flags}
+use Rattle.bits.specs.Bytes.{flags}
 use Rattle.timers.specs.Access.{cleared_timers, written as timer_written, selected}
 use Rattle.refusals.specs.declared.refusal.Refusal.{Refusal}
 use Rattle.refusals.specs.declared.refusal.Refusal.TheVariants.{UnlawfulWord}

@@ -6,6 +6,7 @@ ghost use Rattle.muart.specs.Reading.{control_byte, status_byte, int_high, ready
 ghost use Rattle.muart.specs.State.{with_sensitive};
 
 use crate::state::{Flags, Rest, Sensitive, StandIn};
+use bits::byte_of;
 use levels::Level;
 use registers::held::Control;
 use registers::register::Register;
@@ -33,7 +34,7 @@ pub fn interrupts(rest: &Rest, sensitive: &Sensitive) -> bool
 fn control_byte(control: &Control) -> u8
     ensures { result ≡ control_byte control.now }
 {
-    levels::byte_of(&[
+    byte_of(&[
         false,
         false,
         false,
@@ -49,7 +50,7 @@ fn control_byte(control: &Control) -> u8
 fn status_byte(int: bool, transmitter: &Transmitter, flags: &Flags) -> u8
     ensures { result ≡ status_byte int transmitter.now flags.now }
 {
-    levels::byte_of(&[
+    byte_of(&[
         flags.fe,
         flags.oe,
         flags.pe,
@@ -119,7 +120,7 @@ pub fn read(rest: &Rest, sensitive: &mut Sensitive, register: Register) -> Readi
         Register::Command3 => control_byte(&rest.registers.control),
         Register::Mode => rest.registers.mode,
         Register::Port1Control => rest.registers.direction1,
-        Register::Mask => levels::byte_of(&rest.mask),
+        Register::Mask => byte_of(&rest.mask),
         Register::Pins(port) => rest.registers.read_port(&rest.pins, port),
         Register::Timer(number) => rest.timers.read(number),
     };

@@ -36,7 +36,7 @@ impl Latched {
     }
 }
 
-// The register number that an address says in the way of the family.
+// The register number in an address, as the family reads it.
 fn numbered(family: Family, address: u8) -> Result<u8, Refusal>
     ensures value { result ≡ numbered_by family address }
     ensures few { IfOk result (λ number. address ≤ 31 → number < 16) }

@@ -3,8 +3,9 @@ ghost use Rattle.std.specs.Prelude.{◌≡◌};
 ghost use Rattle.registers.specs.Ports.{used_as_input, is_output, outside, set_outside, latch_at, level_at, pin_at, port_byte};
 
 use crate::held::{Pins, Registers};
-use bits::{Place, bit, weight};
+use bits::{Place, bit, byte_of};
 use refusals::Refusal;
+use std::array;
 
 // A pin of port 1 or 2 by its place, or one of the two others that have a code. Calls take it by reference: a `Copy` enum
 // that holds a type with a model is not copied when it is passed by value twice.
@@ -56,7 +57,7 @@ impl Port {
 }
 
 impl Pins {
-    // The level last set from outside.
+    // The level last set from outside. It and `set_outside` are two matches: a place lent to write in would not serve a read.
     pub fn outside_level(&self, pin: &Pin) -> bool
         ensures { result ≡ outside self.now pin.now }
     {
@@ -132,11 +133,6 @@ impl Registers {
     pub fn read_port(&self, pins: &Pins, port: Port) -> u8
         ensures { result ≡ port_byte self.now pins.now port }
     {
-        // A loop over the places. A chain is no plainer: its sum would owe the bound that the loop keeps place by place.
-        let mut byte: u8 = 0;
-        for place in 0..8 {
-            byte += weight(place, self.level(pins, &port.pin(Place::new(place))));
-        }
-        byte
+        byte_of(&array::from_fn(|place| self.level(pins, &port.pin(Place::new(place as u8)))))
     }
 }

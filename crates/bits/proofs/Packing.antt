@@ -1,11 +1,11 @@
 -- A byte and its eight bits say the same.
-use Rattle.std.proofs.Common.{◌≡◌, ℕ, zero, suc, ◌+◌, ◌*◌, ◌/◌, ◌%◌, ◌^◌, ◌<◌, Bool, true, false, cond, List, [], ◌∷◌, length, get_or, drop, sym, refl, ap, ◌∙◌, pow-suc, arith, map, ◌==◌, ◌≤◌, subst, rules, add-one}
+use Rattle.std.proofs.Common.{◌≡◌, ℕ, zero, suc, ◌+◌, ◌*◌, ◌/◌, ◌%◌, ◌^◌, ◌<◌, Bool, true, false, cond, List, [], ◌∷◌, length, get_or, drop, sym, refl, ap, ◌∙◌, pow-suc, arith, map, ◌==◌, subst, rules, add-one}
 use Rattle.std.specs.List.{range_with_len}
 use native.Mathlib.Nat.{div-div-eq-div-mul}
-use Rattle.std.proofs.lemmas.List.{at_drop_more, at_drop_all}
+use Rattle.std.proofs.lemmas.List.{at_drop_more}
 use Rattle.std.proofs.lemmas.Bool.{eq-eqb, ne_eqb}
 use Rattle.std.proofs.lemmas.Bool.Decides.{nat_tests}
-use Rattle.levels.specs.Bytes.{odd, flags, byte}
+use Rattle.bits.specs.Bytes.{odd, flags, byte}
 
 weighed : (n : ℕ) → cond (odd n) 1 0 ≡ n % 2
 weighed n = grind (arith, nat_tests)
@@ -61,16 +61,10 @@ place_more s i h =
     ∙ weighs (get_or s i false) (2 ^ i) (byte (drop (i + 1) s))
     ∙ ap (λ w. cond (get_or s i false) (2 ^ i) 0 + w * byte (drop (i + 1) s)) (grind (arith, pow-suc 2 i, add-one))
 
--- a loop that adds what each place weighs: its start, a step of it and its end
-pub adds_none : (s : List Bool) → 0 + 2 ^ 0 * byte (drop 0 s) ≡ byte s
-adds_none s = omega arith
-
+-- a loop that adds what each place weighs: a step of it, and that the sum stays a byte
 pub adds_more : (s : List Bool) (i b v : ℕ) → i < length s → b + 2 ^ i * byte (drop i s) ≡ byte s
     → v ≡ cond (get_or s i false) (2 ^ i) 0 → b + v + 2 ^ (i + 1) * byte (drop (i + 1) s) ≡ byte s
 adds_more s i b v h e k = omega (arith, place_more s i h)
-
-pub adds_all : (s : List Bool) (i b : ℕ) → length s ≤ i → b + 2 ^ i * byte (drop i s) ≡ byte s → b ≡ byte s
-adds_all s i b h e = let none = at_drop_all byte s i h in grind (arith, rules)
 
 pub adds_within : (s : List Bool) (i b v : ℕ) → length s ≡ 8 → i < length s → b + 2 ^ i * byte (drop i s) ≡ byte s
     → v ≡ cond (get_or s i false) (2 ^ i) 0 → b + v < 256

@@ -1,4 +1,4 @@
--- A set of levels as a byte: bit n of the byte is place n of the set.
+-- Eight flags as a byte: bit n of the byte is place n of the set.
 use Rattle.std.specs.Prelude.{ℕ, ◌+◌, ◌*◌, ◌/◌, ◌%◌, Bool, cond, List, [], ◌∷◌, ◌==◌}
 
 -- the lowest bit of a number

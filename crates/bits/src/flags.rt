@@ -1,11 +1,12 @@
-// A set of levels as a byte: bit n of the byte is place n of the set. Functions, since a `From` is no plainer: neither an
-// array nor a byte is a type of this crate, so it would want a struct round one of them.
+// Eight flags as a byte: bit n of the byte is place n of the set. Functions, and no `From`: neither an array nor a byte is
+// a type of this crate.
 ghost use Rattle.std.specs.Prelude.{◌≡◌};
-ghost use Rattle.levels.specs.Bytes.{flags, byte};
+ghost use Rattle.bits.specs.Bytes.{flags, byte};
 
-use bits::{bit, weight};
+use crate::bytes::{bit, weight};
 use std::array;
 
+/// The eight bits of a byte, lowest first.
 pub fn flags_of(word: u8) -> [bool; 8]
     ensures bits { result ≡ flags word }
     ensures back { byte result ≡ word }
@@ -13,8 +14,7 @@ pub fn flags_of(word: u8) -> [bool; 8]
     array::from_fn(|place| bit(word, place as u8))
 }
 
-// The same sum as a port's byte in registers. One text is no plainer: a port makes its levels one by one and has no set of
-// flags.
+/// The byte whose bits are the flags.
 pub fn byte_of(set: &[bool; 8]) -> u8
     ensures bits { result ≡ byte set.now }
     ensures back { flags result ≡ set.now }

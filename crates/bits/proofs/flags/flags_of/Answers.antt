@@ -1,8 +1,8 @@
 use Rattle.std.proofs.Common.{rules, ◌==◌, ◌/◌, ◌%◌, ◌^◌, false, ap, ◌∙◌, arith}
-use Rattle.levels.specs.Bytes.{byte}
-use Rattle.levels.proofs.Meeting.{made}
-use Rattle.levels.proofs.Packing.{byte_flags, flags_made}
-use Rattle.levels.proofs.bytes.flags_of.Goals as goal
+use Rattle.bits.specs.Bytes.{byte}
+use Rattle.bits.proofs.Made.{made}
+use Rattle.bits.proofs.Packing.{byte_flags, flags_made}
+use Rattle.bits.proofs.flags.flags_of.Goals as goal
 
 pub returns : goal.returns
 returns c =
