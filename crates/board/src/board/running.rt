@@ -96,8 +96,8 @@ impl<P: Partner> Board<P> {
         self.partner.advance(clocks);
     }
 
-    // Skips up to where something can happen, runs that clock, and goes on. What it asks concerns this call only, so no type can say
-    // it.
+    // Skips up to where something can happen, runs that clock, and goes on. What it asks concerns this call only, so no type
+    // can say it.
     pub(super) fn run(&mut self, clocks: u64, wires: &mut Recorder<'_, WireMark>)
         requires short { clocks ≤ 16777216 }
         requires fits { self.old.clock + clocks ≤ last_clock }
