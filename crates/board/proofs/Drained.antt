@@ -32,7 +32,7 @@ use Rattle.muart.specs.State.{with_serial, with_sensitive, with_steps, with_pres
 use Rattle.timers.specs.declared.modes.Side.{Side}
 use Rattle.timers.specs.declared.modes.Side.TheVariants.{Even, Odd}
 use Rattle.timers.specs.Stepping.{stepped, firing, edge_counted, edge_firing}
-use Rattle.muart.specs.Firing.{asks, request_if, fired_requests, biti_of, modes_of}
+use Rattle.muart.specs.Firing.{request_if, fired_requests, biti_of, modes_of}
 use Rattle.muart.specs.Serial.{reception_kept, serial_tick, txd_level, rate_in, form_in}
 use Rattle.muart.specs.Clock.{timers_moved, timer_step, divide_in, timed, rate_modulus, rated, internal_clock, prescale_in, clocked}
 use Rattle.timing.specs.Accumulator.{wraps, next}
@@ -165,9 +165,6 @@ length_asked true l mask q = at (get_or mask l false)
     at : (b : Bool) → length (cond b (set q l true) q) ≡ length q
     at true = length-set q l true
     at false = refl
-
-asks_eight : (on : Bool) (l : ℕ) (s : StandIn) → Eight s → Eight (asks on l s)
-asks_eight on l s h = (length_asked on l s.rest.mask s.sensitive.levels.requests ∙ h.0, h.1)
 
 length_fired : (g : Registers) (f : Fired) (mask q : List Bool) → length (fired_requests g f mask q) ≡ length q
 length_fired g f mask q =

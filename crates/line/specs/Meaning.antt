@@ -1,6 +1,6 @@
 use Rattle.std.specs.Prelude.{◌≡◌, ℕ, zero, suc, ◌<◌, ◌≤◌, Bool, List, [], ◌∷◌}
 
--- What can befall a line partner: one clock passes, or it hears a level.
+-- What can happen to a line partner: one clock passes, or it hears a level.
 pub data Sign : Type 0 where
   clock : Sign
   heard : Bool → Sign

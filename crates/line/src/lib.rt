@@ -1,4 +1,4 @@
-// What drives a receiver's RxD pin and hears its TxD pin.
+// What drives the RxD pin of a stand-in and hears its TxD pin.
 
 #![tactic(auto)]
 

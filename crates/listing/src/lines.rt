@@ -9,7 +9,8 @@ use crate::number::write_number;
 pub struct Line {
     // the number of the script's line
     pub number: u32,
-    // the answer, 0 where there is none, or the refusal's number: a number and no `Refusal`, since the columns show any
+    // the answer, 0 where there is none, or the refusal's number. It is a number and no `Refusal`: the columns show any number, and
+    // a narrower type would ask more of callers
     pub answer: Result<u8, u8>,
     // the clock's number, or the column that refuses a script's line
     pub last: u64,

@@ -9,6 +9,7 @@ use recorder::Recorder;
 use std::fmt;
 
 /// A level taken into service, passed by with nesting off, or closed.
+// A number: a `Level` would ask more of a host that makes marks to fill its room.
 #[derive(Clone, Copy, PartialEq, Eq)]
 pub enum ServiceMark {
     Taken { clock: u64, level: u8 },
@@ -29,8 +30,8 @@ impl fmt::Display for ServiceMark {
     }
 }
 
-/// Marks a level that was taken: with nesting off it was passed. A function on the recorder: as a method of both recorders it is no
-/// plainer, since it would owe that the other stays.
+/// Marks a level that was taken: with nesting off it was passed. A function on the recorder: a method of both recorders would
+/// have to prove that the other recorder is left as it is.
 pub fn mark_taken(
     services: &mut Recorder<'_, ServiceMark>,
     clock: u64,

@@ -69,8 +69,8 @@ fn mark_change(
     }
 }
 
-/// A function on the recorder: as a method of both recorders it is no plainer, since it would owe that the other stays.
-/// Marks the lines that changed: TxD, RxD and INT, in that order.
+/// Marks the lines that changed: TxD, RxD and INT, in that order. A function on the recorder: a method of both recorders would
+/// have to prove that the other recorder is left as it is.
 #[tactic(auto, using(recorder::proofs::Extending::extended_on))]
 pub fn mark_changes(wires: &mut Recorder<'_, WireMark>, clock: u64, before: Lines, after: Lines)
     ensures view { recording wires.new ≡ all_marked (changes clock before after) (recording wires.old) }

@@ -1,6 +1,6 @@
 -- What one turn of a look keeps.
 use Rattle.std.proofs.Common.{◌≡◌, ℕ, ◌+◌, ◌<◌, ◌≤◌, List, ◌++◌, length, get_or, take, drop, set, Some, None, Ok, Err, Option, sym, refl, ap, ◌∙◌, append_assoc, take-append-drop, arith}
-use Rattle.std.proofs.lemmas.List.{drop_all, drop_more, drop-set-lt, take_more_set}
+use Rattle.std.proofs.lemmas.List.{drop_more, drop-set-lt, take_more_set}
 use Rattle.std.specs.Option.{ok_or}
 use Rattle.refusals.specs.declared.refusal.Refusal.{Refusal}
 use Rattle.refusals.specs.declared.refusal.Refusal.TheVariants.{NoSuchRegister}
@@ -37,18 +37,12 @@ module _ (r : Rest) (s : Sensitive) (i : ℕ) (ns p : List ℕ) where
       let room : i < length p = omega arith in
       rw (drop_more ns i 0 h, drop_more p i 0 room, e, looked, ← drop_more p i 0 room) (take-append-drop i p)
 
-  pub ends : length ns ≤ i → so_far ns r s p i ≡ p
-  ends h = rw (drop_all i ns h) (take-append-drop i p)
-
 module _ (ns : List ℕ) (i : ℕ) where
   known_reads : (g : Register) → i < length ns → register_of (get_or ns i 0) ≡ Some g → all_known (drop i ns) ≡ all_known (drop (i + 1) ns)
   known_reads g h e = rw (drop_more ns i 0 h, e, all_known) refl
 
   pub known_stops : i < length ns → register_of (get_or ns i 0) ≡ None → all_known (drop i ns) ≡ Err NoSuchRegister
   known_stops h e = rw (drop_more ns i 0 h, e, all_known) refl
-
-  pub known_ends : length ns ≤ i → all_known (drop i ns) ≡ Ok tt
-  known_ends h = rw (drop_all i ns h) refl
 
 -- a turn of the loop, as the code has it
 pub turn : (A ns p : List ℕ) (r : Rest) (s after : Sensitive) (i : ℕ) (g : Register) (told : Reading) → A ≡ so_far ns r s p i → i < length ns → length ns ≤ length p → register_of (get_or ns i 0) ≡ Some g → told ≡ reading g r s → after ≡ read_leaves g r s → A ≡ so_far ns r after (set p i told.byte) (i + 1)

@@ -14,7 +14,7 @@ use serial::rate::rate_step;
 use timers::FAR;
 use timing::Ratio;
 
-// Baud times the ticks to a bit, in each internal clock, make a rate tick whenever this much is reached.
+// Each internal clock adds baud times the ticks to a bit; a rate tick falls when the sum reaches this.
 const RATE_MODULUS: u32 = 1_024_000;
 
 // Every p-th system clock ends an internal clock.
@@ -47,6 +47,7 @@ impl StandIn {
         self.record_fired(fired);
     }
 
+    // An internal clock at the timers.
     fn time(&mut self)
         ensures { self.new ≡ timed self.old }
     {
@@ -56,6 +57,7 @@ impl StandIn {
         }
     }
 
+    // An internal clock at the serial side.
     fn rate(&mut self)
         ensures { self.new ≡ rated self.old }
     {
@@ -113,8 +115,8 @@ impl StandIn {
         dividers.prescaler.reach(internals, clock_ratio(registers))
     }
 
-    // Many clocks at once, of which none is past the horizon. That they are few is asked of this call: no value lasts of which a
-    // type could say it.
+    // Many clocks at once, of which none is past the horizon. That there are at most 16,777,216 is asked of the caller: it concerns
+    // this call only.
     pub fn skip(&mut self, clocks: u64)
         requires still { Still clocks self.old }
         requires short { clocks ≤ 16777216 }

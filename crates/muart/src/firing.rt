@@ -40,7 +40,7 @@ impl StandIn {
         levels::request(&mut self.sensitive.levels.requests, &self.rest.mask, level);
     }
 
-    // Each timer requests its level; under T5C that of timer 5, or of its pair, disables the level.
+    // Each timer that fired requests its level. Under T5C the request of timer 5, or of its pair, disables its own level.
     pub fn record_fired(&mut self, fired: Fired)
         ensures { self.new ≡ recorded fired self.old }
     {
@@ -62,6 +62,7 @@ impl StandIn {
         self.disable_own(fired);
     }
 
+    // The level of timer 5, or of its pair, under T5C.
     fn disable_own(&mut self, fired: Fired)
         ensures { self.new ≡ with_mask (fired_mask self.old.rest.registers fired self.old.rest.mask) self.old }
     {

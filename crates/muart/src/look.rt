@@ -50,7 +50,7 @@ pub fn look(
 }
 
 impl StandIn {
-    // A look at the stand-in, which leaves it as it was.
+    // A look at the stand-in, which leaves it as it was. A host of the crate holds a whole stand-in, so this hands its records on.
     pub fn look(&mut self, registers: &[u8], place: &mut [u8]) -> Result<(), Refusal>
         ensures answer { result ≡ look_answer registers.now (length place.old) }
         ensures same { self.new ≡ self.old }

@@ -9,7 +9,8 @@ use refusals::Refusal;
 use registers::words::Family;
 
 // The first pulse of the 8086 family leaves this half of an acknowledge with the host. Only the second pulse
-// spends it, and one that is not spent cannot be let go.
+// spends it, and one that is not spent cannot be let go. A flag, under a `Drop` that asks for it: of a type without `Drop`
+// the compiler, and not the prover, would refuse a half that is thrown away, and the gate can show only what the prover refuses.
 pub struct Half {
     spent: bool,
 }

@@ -20,7 +20,8 @@ pub struct Reading {
     pub taken: Option<Level>,
 }
 
-// INT is high exactly when a level is ready.
+// INT is high exactly when a level is ready. Here and below a function over the two records shows in its signature that a read
+// changes only the second, and one struct of both would be the stand-in again.
 pub fn interrupts(rest: &Rest, sensitive: &Sensitive) -> bool
     ensures { result ≡ int_high rest.now sensitive.now }
 {
@@ -105,8 +106,7 @@ fn read_buffer(rest: &Rest, sensitive: &mut Sensitive) -> Reading
     }
 }
 
-// Only the interrupt address, the buffer and the status disturb anything. The rest comes by shared reference and the small
-// record by `&mut`, and no stand-in as a whole, so that the signature shows what a read may change.
+// Only the interrupt address, the buffer and the status disturb anything.
 pub fn read(rest: &Rest, sensitive: &mut Sensitive, register: Register) -> Reading
     ensures answer { result ≡ reading register rest.now sensitive.old }
     ensures after { sensitive.new ≡ read_leaves register rest.now sensitive.old }
@@ -127,6 +127,7 @@ pub fn read(rest: &Rest, sensitive: &mut Sensitive, register: Register) -> Readi
     Reading { byte, taken: None }
 }
 
+// A host of the crate holds a whole stand-in, so `read` and `interrupts` hand its records on.
 impl StandIn {
     // What a read disturbs is the read-sensitive record alone.
     pub fn read(&mut self, register: Register) -> Reading

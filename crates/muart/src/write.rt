@@ -14,6 +14,7 @@ use serial::receiver::Receiver;
 use serial::transmitter::Transmitter;
 use timers::Timers;
 
+// Whether the register takes the word. A struct of both, here and below, is no plainer, since each is looked at alone.
 fn lawful(register: Register, word: u8) -> bool
     ensures { result ≡ is_lawful register word }
 {

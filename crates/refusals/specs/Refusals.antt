@@ -1,5 +1,5 @@
 -- The number of each refusal.
-use Rattle.std.specs.Prelude.{ℕ}
+use Rattle.std.specs.Prelude.{◌≡◌, ℕ}
 use Rattle.refusals.specs.declared.refusal.Refusal.{Refusal}
 use Rattle.refusals.specs.declared.refusal.Refusal.TheVariants.{AddressTooHigh, NotSelected, UnlawfulWord, AcknowledgeDisabled, WrongFamily, InterruptLow, AlreadyBegun, NoneBegun, SpanTooLong, ClockPastEnd, NoSuchPin, OutputPin, ScriptLine, PlaceTooShort, NoSuchRegister}
 
@@ -19,3 +19,7 @@ number_of OutputPin = 12
 number_of ScriptLine = 13
 number_of PlaceTooShort = 14
 number_of NoSuchRegister = 15
+
+-- Two refusals with the same number are the same refusal.
+abbrev pub NumbersTellRefusals : Type 0
+NumbersTellRefusals = (a b : Refusal) → number_of a ≡ number_of b → a ≡ b

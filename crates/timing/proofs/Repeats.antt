@@ -1,5 +1,5 @@
 -- Laws of one step many times, over any state.
-use Rattle.std.proofs.Common.{◌≡◌, ℕ, zero, suc, ◌+◌, Bool, true, false, cond, refl, suc-add, zero-add}
+use Rattle.std.proofs.Common.{◌≡◌, ℕ, zero, suc, ◌+◌, false, refl, suc-add, zero-add}
 use Rattle.timing.specs.Run.{times, when}
 
 -- n + m times is n times and then m times.
@@ -11,11 +11,6 @@ times_add (suc n) m f s = rw suc-add (times_add n m f (f s))
 pub times_suc : {S : Type 0} (n : ℕ) (f : S → S) (s : S) → times (suc n) f s ≡ f (times n f s)
 times_suc zero f s = refl
 times_suc (suc n) f s = times_suc n f (f s)
-
--- A step that may be taken, and then k steps.
-pub times_when : {S : Type 0} (k : ℕ) (b : Bool) (f : S → S) (s : S) → times k f (when b f s) ≡ times (cond b (suc k) k) f s
-times_when k true f s = refl
-times_when k false f s = refl
 
 -- A step that is not taken, any number of times.
 pub times_still : {S : Type 0} (n : ℕ) (f : S → S) (s : S) → times n (when false f) s ≡ s

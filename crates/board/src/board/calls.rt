@@ -4,6 +4,7 @@ ghost use Rattle.recorder.specs.Recording.{Recording};
 ghost use Rattle.marks.specs.declared.wires.WireMark.{WireMark as Wire};
 ghost use Rattle.marks.specs.declared.services.ServiceMark.{ServiceMark as Service};
 ghost use Rattle.marks.specs.Both.{BothExtended};
+ghost use Rattle.refusals.specs.Refusals.{NumbersTellRefusals};
 ghost use Rattle.board.specs.Views.{view, last_clock, Bounds};
 ghost use Rattle.board.specs.Cuts.{CutDoesNotShow};
 ghost use Rattle.board.specs.ServiceStack.{ServiceIsAStack};
@@ -25,12 +26,14 @@ const LONGEST_SPAN: u64 = 16_777_216;
 const LAST_CLOCK: u64 = 500_000_000_000_000;
 
 impl<P: Partner> Board<P> {
-    // RxD has the partner's level, and the clock number is 0.
-    // Over every history from here on: how the clock is cut does not show, service is a stack that the marks tell, and
-    // standing requests drain.
+    /// Powers a stand-in up beside a line partner. RxD has the partner's level, and the clock number is 0.
+    ///
+    /// Over every history from here on: how the clock is cut does not show, service is a stack that the marks tell, and
+    /// standing requests drain. A refused call changes nothing, and its number tells which refusal it is.
     pub fn power_up(partner: P) -> Board<P>
         ensures started { view P.Partner.meaning result ≡ started (P.Partner.meaning partner) }
         ensures refusals { RefusedCallChangesNothing }
+        ensures numbers { NumbersTellRefusals }
         ensures spans { SpansAdd }
         ensures cuts { CutDoesNotShow }
         ensures service { ServiceIsAStack }
@@ -45,7 +48,7 @@ impl<P: Partner> Board<P> {
         }
     }
 
-    // The clock number. A caller learns here what holds of every board.
+    /// The clock number. A caller learns here what holds of every board.
     pub fn clock(&self) -> u64
         ensures value { result ≡ self.now.clock }
         ensures within { result ≤ last_clock }
@@ -54,7 +57,7 @@ impl<P: Partner> Board<P> {
         self.clock
     }
 
-    // One bus cycle that reads. It uses the latched address up.
+    /// Runs one bus cycle that reads. It uses the latched address up.
     pub fn read(&mut self, latched: Latched, recorders: &mut Recorders<'_>) -> Result<u8, Refusal>
         ensures answer { byte_answer result ≡ (perform (read_call latched) (state P.Partner.meaning self.old recorders.old)).1 }
         ensures state { state P.Partner.meaning self.new recorders.new ≡ (perform (read_call latched) (state P.Partner.meaning self.old recorders.old)).0 }
@@ -69,7 +72,7 @@ impl<P: Partner> Board<P> {
         Ok(reading.byte)
     }
 
-    // One bus cycle that writes. It uses the latched address up.
+    /// Runs one bus cycle that writes. It uses the latched address up.
     pub fn write(
         &mut self,
         latched: Latched,
@@ -88,7 +91,7 @@ impl<P: Partner> Board<P> {
         Ok(())
     }
 
-    // The single acknowledge pulse of the 8085 family.
+    /// Gives the single acknowledge pulse of the 8085 family.
     pub fn acknowledge(&mut self, recorders: &mut Recorders<'_>) -> Result<u8, Refusal>
         ensures answer { byte_answer result ≡ (perform pulse (state P.Partner.meaning self.old recorders.old)).1 }
         ensures state { state P.Partner.meaning self.new recorders.new ≡ (perform pulse (state P.Partner.meaning self.old recorders.old)).0 }
@@ -103,7 +106,7 @@ impl<P: Partner> Board<P> {
         Ok(answer.byte)
     }
 
-    // The first acknowledge pulse of the 8086 family. The half that it leaves must be handed in with the second.
+    /// Gives the first acknowledge pulse of the 8086 family. The half that it leaves must be handed in with the second.
     pub fn begin_acknowledge(&mut self, recorders: &mut Recorders<'_>) -> Result<Half, Refusal>
         ensures answer { plain_answer result ≡ (perform first_pulse (state P.Partner.meaning self.old recorders.old)).1 }
         ensures state { state P.Partner.meaning self.new recorders.new ≡ (perform first_pulse (state P.Partner.meaning self.old recorders.old)).0 }
@@ -117,7 +120,7 @@ impl<P: Partner> Board<P> {
         Ok(half)
     }
 
-    // The second acknowledge pulse of the 8086 family. It spends the half, whatever it answers.
+    /// Gives the second acknowledge pulse of the 8086 family. It spends the half, whatever it answers.
     pub fn finish_acknowledge(
         &mut self,
         half: Half,
@@ -133,7 +136,7 @@ impl<P: Partner> Board<P> {
         Ok(answer)
     }
 
-    // The outside level of a pin.
+    /// Sets the outside level of an input pin.
     pub fn set_pin(
         &mut self,
         code: u8,
@@ -151,7 +154,7 @@ impl<P: Partner> Board<P> {
         Ok(())
     }
 
-    // A span of clocks.
+    /// Runs a span of clocks.
     pub fn span(&mut self, clocks: u64, recorders: &mut Recorders<'_>) -> Result<(), Refusal>
         ensures answer { plain_answer result ≡ (perform (span_call clocks) (state P.Partner.meaning self.old recorders.old)).1 }
         ensures state { state P.Partner.meaning self.new recorders.new ≡ (perform (span_call clocks) (state P.Partner.meaning self.old recorders.old)).0 }
@@ -167,7 +170,7 @@ impl<P: Partner> Board<P> {
         Ok(())
     }
 
-    // The reset pin.
+    /// Resets the stand-in, as a reset word does.
     pub fn reset(&mut self, recorders: &mut Recorders<'_>)
         ensures answer { done ≡ (perform reset_call (state P.Partner.meaning self.old recorders.old)).1 }
         ensures state { state P.Partner.meaning self.new recorders.new ≡ (perform reset_call (state P.Partner.meaning self.old recorders.old)).0 }
@@ -179,7 +182,7 @@ impl<P: Partner> Board<P> {
         self.settle(before, &mut recorders.wires);
     }
 
-    // Reads the listed registers in turn, as the bus would, into the front of `place`, and disturbs nothing.
+    /// Reads the listed registers in turn, as the bus would, into the front of `place`, and disturbs nothing.
     pub fn look(&mut self, registers: &[u8], place: &mut [u8]) -> Result<(), Refusal>
         ensures answer { looked result place.new ≡ answered (look_call registers.now place.old) (view P.Partner.meaning self.old) }
         ensures same { self.new ≡ self.old }
@@ -189,7 +192,7 @@ impl<P: Partner> Board<P> {
         self.unit.look(registers, place)
     }
 
-    // The five counts together.
+    /// The five counts together.
     pub fn snapshot(&self) -> [u8; 5]
         ensures answer { counts result ≡ answered snapshot_call (view P.Partner.meaning self.now) }
         ensures performed { (wires : Recording Wire) (services : Recording Service) → counts result ≡ (perform snapshot_call (beside wires services (view P.Partner.meaning self.now))).1 }

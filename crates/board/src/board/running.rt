@@ -80,7 +80,7 @@ impl<P: Partner> Board<P> {
         steady.min(self.unit.horizon())
     }
 
-    // Many clocks in which no line changes and nothing is recorded. Their bounds are of this call, and no type's.
+    // Many clocks in which no line changes and nothing is recorded. What it asks concerns this call only, so no type can say it.
     fn skip(&mut self, clocks: u64)
         requires short { clocks ≤ 16777216 }
         requires fits { self.old.clock + clocks ≤ last_clock }
@@ -96,7 +96,8 @@ impl<P: Partner> Board<P> {
         self.partner.advance(clocks);
     }
 
-    // Skips up to where something can happen, runs that clock, and goes on. What it asks is of this call, and of no value that lasts.
+    // Skips up to where something can happen, runs that clock, and goes on. What it asks concerns this call only, so no type
+    // can say it.
     pub(super) fn run(&mut self, clocks: u64, wires: &mut Recorder<'_, WireMark>)
         requires short { clocks ≤ 16777216 }
         requires fits { self.old.clock + clocks ≤ last_clock }

@@ -3,7 +3,7 @@ ghost use Rattle.recorder.specs.Recording.{Extended, all_marked, empty, lent, ma
 
 use super::Recorder;
 
-impl<'a, T: Copy> Recorder<'a, T> {
+impl<'a, T: Drop> Recorder<'a, T> {
     /// A recorder over the room that the host lends, with nothing recorded yet. Of all marks made from here on the first
     /// that fit are kept, and all are counted.
     #[tactic(auto, using(crate::proofs::Marks::kept_take, crate::proofs::Marks::counts_all))]

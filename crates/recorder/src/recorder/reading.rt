@@ -3,7 +3,7 @@ ghost use Rattle.recorder.specs.Recording.{recording};
 
 use super::Recorder;
 
-impl<'a, T: Copy> Recorder<'a, T> {
+impl<'a, T: Drop> Recorder<'a, T> {
     /// The kept marks, the first made first.
     pub fn marks(&self) -> &[T]
         ensures { result.now ≡ (recording self.now).kept }

@@ -1,11 +1,8 @@
-use Rattle.std.proofs.Common.{sym, refl, ap, ◌∙◌, Err, length-set, rules}
+use Rattle.std.proofs.Common.{sym, ap, ◌∙◌, Err, length-set, rules}
 use Rattle.std.proofs.lemmas.Bool.{le-ltb}
 use Rattle.std.proofs.lemmas.Result.{err_from_is_err_and}
-use Rattle.muart.proofs.Looking.{found, not_found, stops, ends, turn, known_stops, known_ends, known_turn}
+use Rattle.muart.proofs.Looking.{found, not_found, stops, turn, known_stops, known_turn}
 use Rattle.muart.proofs.look.look.Goals as goal
-
-pub loop-at-init : goal.loop-at-init
-loop-at-init c = (refl, refl, c.if-place-registers.false)
 
 pub returns-in_err-register : goal.returns-in_err-register
 returns-in_err-register c =
@@ -26,12 +23,3 @@ loop-at-preserved c =
       known_turn _ _ _ c.loop-at.invariant.1 taken e,
       simp length-set c.loop-at.invariant.2,
     )
-
-pub returns : goal.returns
-returns c =
-    let room = le-ltb _ _ c.if-place-registers.false in
-    record {
-      answer = rw room (sym (c.loop-at.invariant.1 ∙ known_ends _ _ c.loop-at-test.false));
-      same = search rules;
-      wrote = rw room (sym (c.loop-at.invariant.0 ∙ ends _ _ _ _ _ c.loop-at-test.false));
-    }
