@@ -12,7 +12,7 @@ use registers::latch::Latched;
 use script::Operation;
 
 impl<'a> Bench<'a> {
-    /// The byte that is listed of an accepted operation, 0 if it has none.
+    /// Makes the calls of an operation. Answers the byte that is listed of it, 0 if it has none.
     pub fn operate(&mut self, operation: Operation) -> Result<u8, Refusal>
         ensures answer { result ≡ last_listed (calls_of operation (state_of self.old)) (state_of self.old) }
         ensures state { state_of self.new ≡ ran (calls_of operation (state_of self.old)) (state_of self.old) }

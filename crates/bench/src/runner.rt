@@ -43,7 +43,7 @@ impl<'a> Bench<'a> {
         self.run_said(number, parse(line))
     }
 
-    // Runs what a line says; a note does nothing and lists nothing. A line that cannot stand is listed with its first such column.
+    // Runs what a line says; a note does nothing and lists nothing. A line that cannot be run is listed with the first column that cannot stand.
     fn run_said(&mut self, number: u32, said: Result<Item<'_>, Fault>) -> Option<[u8; 29]>
         ensures prints { result ≡ said_prints number (content said.entry) (state_of self.old) }
         ensures state { state_of self.new ≡ ran (said_calls number (content said.entry) (state_of self.old)) (state_of self.old) }

@@ -13,12 +13,13 @@ use std::{io, str};
 const COMMAND_2: u8 = 0x34;
 
 const RECEIVER_ON: u8 = 0xC0;
+
 // Shorter than a character, so that none is overrun.
 const STEP: u64 = 64;
 
 const RECEIVED: u8 = 64;
 
-// So many bytes of a line that holds a wait are read.
+// Of a line that holds a wait only so many bytes are kept.
 const WAIT_BYTES: usize = 96;
 
 fn read_waits(rt: &HostRuntime) -> anyhow::Result<Vec<u32>> {

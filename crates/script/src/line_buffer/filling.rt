@@ -14,7 +14,7 @@ impl<const KEPT: usize> LineBuffer<KEPT> {
         }
     }
 
-    /// The next byte of the line, which is kept if it is among the first.
+    /// The next byte of the line, which is kept if it is among the first `KEPT`.
     pub fn push(&mut self, byte: u8) -> Result<(), AllocError>
         ensures { self.new ≡ (if is_ok result then take KEPT (self.old ++ byte ∷ []) else self.old) }
     {
