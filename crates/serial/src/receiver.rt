@@ -20,7 +20,7 @@ pub struct Receiving {
 }
 
 /// The stage tells what the next sample will be.
-#[derive(Clone, Copy)]
+#[derive(Clone, Copy, Default)]
 pub struct Receiver {
     pub state: Stage<Receiving>,
 }
@@ -81,7 +81,7 @@ impl Receiver {
     pub fn new() -> Receiver
         ensures { result ≡ Stage.Idle }
     {
-        Receiver { state: Stage::Idle }
+        Receiver::default()
     }
 
     /// Takes an edge or a tick, and tells what was received with it.

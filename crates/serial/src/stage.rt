@@ -28,8 +28,9 @@ pub(crate) trait Lasting: Copy {
 }
 
 /// Which part of its frame a transmitter or a receiver is in.
-#[derive(Clone, Copy)]
+#[derive(Clone, Copy, Default)]
 pub enum Stage<F> {
+    #[default]
     Idle,
     Start(F),
     /// The data bit at this place, the lowest at 0.

@@ -18,7 +18,7 @@ pub struct Sending {
     pub left: u32,
 }
 
-#[derive(Clone, Copy)]
+#[derive(Clone, Copy, Default)]
 pub struct Transmitter {
     pub buffer: Option<u8>,
     pub phase: Stage<Sending>,
@@ -58,10 +58,7 @@ impl Transmitter {
     pub fn new() -> Transmitter
         ensures { result ≡ fresh }
     {
-        Transmitter {
-            buffer: None,
-            phase: Stage::Idle,
-        }
+        Transmitter::default()
     }
 
     pub fn txd(&self) -> bool
