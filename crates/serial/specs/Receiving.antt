@@ -23,11 +23,6 @@ SoundReceiver (Data r place) = SoundReceiving r place × (place < r.form.length)
 SoundReceiver (Parity r) = SoundReceiving r r.form.length
 SoundReceiver (Stop r) = SoundReceiving r r.form.length
 
--- A fall gives a sound form.
-abbrev pub SoundEvent : Event → Type 0
-SoundEvent (Fall form) = SoundForm form
-SoundEvent (Tick rxd) = Unit {0}
-
 -- The same reception with another number of ticks to its next sample.
 abbrev pub lasting : ℕ → Receiving → Receiving
 lasting n r = record { form = r.form; character = r.character; parity = r.parity; left = n }
