@@ -6,7 +6,6 @@ use Rattle.serial.specs.Receiving.{SoundReceiver, lasting, lessened, passed, qui
 use Rattle.serial.specs.declared.receiver.Receiving.{Receiving}
 use Rattle.serial.specs.declared.receiver.Receiver.{Receiver}
 use Rattle.serial.specs.declared.stage.Stage.TheVariants.{Idle, Start, Data, Parity, Stop}
-use Rattle.serial.proofs.Stages.{rest_in}
 
 -- A state that counts down, and tells nothing meanwhile.
 pub record Countdown (at : ℕ → Receiver) : Type 0 where
@@ -98,25 +97,10 @@ quiet_silence w p n k sound h = (quiet_heard w p n sound h).silent k
 
 -- ---- for callers that reason over many ticks
 
--- a quiet tick takes one off
-pub quiet_tick : (rxd : Bool) (p : Receiver) → SoundReceiver p → 1 ≤ quiet_ticks p → passed rxd p ≡ lessened 1 p
-quiet_tick rxd p sound h = (quiet_heard (λ k. rxd) p 1 sound h).state
-
--- and tells nothing
+-- a quiet tick tells nothing
 pub quiet_told : (rxd : Bool) (p : Receiver) → 1 ≤ quiet_ticks p → told rxd p ≡ None
 quiet_told rxd Idle h = refl
 quiet_told rxd (Start x) h = refl
 quiet_told rxd (Data x place) h = refl
 quiet_told rxd (Parity x) h = refl
 quiet_told rxd (Stop x) h = rw (lt-ltb 1 x.left (omega arith))
-
--- what is left stays quiet
-pub quiet_rest : (p : Receiver) (n m : ℕ) → n + m ≤ quiet_ticks p → m ≤ quiet_ticks (lessened n p)
-quiet_rest = rest_in (λ s. s.left) lasting (λ n s. refl)
-
-pub quiet_sound : (p : Receiver) (n : ℕ) → SoundReceiver p → n ≤ quiet_ticks p → SoundReceiver (lessened n p)
-quiet_sound Idle n sound h = sound
-quiet_sound (Start x) n sound h = (sound.0, omega arith, omega arith, sound.3)
-quiet_sound (Data x place) n sound h = ((sound.0.0, omega arith, omega arith, sound.0.3), sound.1)
-quiet_sound (Parity x) n sound h = (sound.0, omega arith, omega arith, sound.3)
-quiet_sound (Stop x) n sound h = (sound.0, omega arith, omega arith, sound.3)

@@ -8,6 +8,3 @@ pub mod Returned
 pub mod Sent
 pub mod Silent
 pub mod SoundForms
-pub mod SoundReceiving
-pub mod SoundSending
-pub mod Stages

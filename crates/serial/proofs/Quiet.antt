@@ -1,19 +1,14 @@
 -- The transmitter's ticks that only count.
-use Rattle.std.proofs.Common.{◌≡◌, ℕ, ◌+◌, ◌-◌, ◌<◌, ◌≤◌, Bool, false, not, Option, sym, refl, ap, arith}
-use Rattle.std.proofs.lemmas.Bool.{lt-ltb, le-ltb}
+use Rattle.std.proofs.Common.{◌≡◌, ℕ, ◌-◌, ◌<◌, ◌≤◌, Bool, false, not, Option, sym, refl, ap, arith}
+use Rattle.std.proofs.lemmas.Bool.{lt-ltb}
 use Rattle.timing.specs.Run.{times}
-use Rattle.serial.specs.Sending.{SoundPhase, ending, idle, lasting, lessened, level, passed, past_bit, quiet_ticks, ticked}
+use Rattle.serial.specs.Sending.{SoundPhase, ending, lasting, lessened, quiet_ticks, ticked}
 use Rattle.serial.specs.declared.form.Form.{Form}
 use Rattle.serial.specs.declared.transmitter.Sending.{Sending}
 use Rattle.serial.specs.Sending.{Phase}
 use Rattle.serial.specs.declared.stage.Stage.TheVariants.{Idle, Start, Data, Parity, Stop}
 use Rattle.serial.specs.declared.transmitter.Transmitter.{Transmitter}
 use Rattle.serial.proofs.Counting.{times_still, times_count}
-use Rattle.serial.proofs.Stages.{rest_in}
-
--- the last tick of a data bit
-pub last_of_bit : (s : Sending) (place : ℕ) → s.left ≤ 1 → past_bit s place ≡ passed (Data s place)
-last_of_bit s place h = rw (le-ltb 1 s.left h)
 
 -- a transmitter in this phase
 abbrev pub holding : Option ℕ → Phase → Transmitter
@@ -42,10 +37,6 @@ module _ (form : Form) (cts : Bool) (b : Option ℕ) where
 
 -- ---- for callers that reason over many ticks
 
--- a quiet tick takes one off
-pub quiet_tick : (form : Form) (cts : Bool) (b : Option ℕ) (p : Phase) → SoundPhase p → 1 ≤ quiet_ticks p → ticked form cts (holding b p) ≡ holding b (lessened 1 p)
-quiet_tick form cts b p sound h = sym (lessens form cts b p 1 sound h)
-
 -- no quiet tick is a frame's last
 pub quiet_ending : (p : Phase) → 1 ≤ quiet_ticks p → ending p ≡ false
 quiet_ending Idle h = refl
@@ -53,30 +44,3 @@ quiet_ending (Start s) h = refl
 quiet_ending (Data s place) h = refl
 quiet_ending (Parity s) h = refl
 quiet_ending (Stop s) h = ap not (lt-ltb 1 s.left (omega arith))
-
--- what is left stays quiet
-pub quiet_rest : (p : Phase) (n m : ℕ) → n + m ≤ quiet_ticks p → m ≤ quiet_ticks (lessened n p)
-quiet_rest = rest_in (λ s. s.left) lasting (λ n s. refl)
-
--- TxD stays as it is
-pub quiet_level : (p : Phase) (n : ℕ) → level (lessened n p) ≡ level p
-quiet_level Idle n = refl
-quiet_level (Start s) n = refl
-quiet_level (Data s place) n = refl
-quiet_level (Parity s) n = refl
-quiet_level (Stop s) n = refl
-
--- and so does TRE
-pub quiet_idle : (p : Phase) (n : ℕ) → idle (lessened n p) ≡ idle p
-quiet_idle Idle n = refl
-quiet_idle (Start s) n = refl
-quiet_idle (Data s place) n = refl
-quiet_idle (Parity s) n = refl
-quiet_idle (Stop s) n = refl
-
-pub quiet_sound : (p : Phase) (n : ℕ) → SoundPhase p → n ≤ quiet_ticks p → SoundPhase (lessened n p)
-quiet_sound Idle n sound h = sound
-quiet_sound (Start s) n sound h = (sound.0, omega arith, omega arith)
-quiet_sound (Data s place) n sound h = ((sound.0.0, omega arith, omega arith), sound.1)
-quiet_sound (Parity s) n sound h = (sound.0, omega arith, omega arith)
-quiet_sound (Stop s) n sound h = (sound.0, omega arith, omega arith)

@@ -1,4 +1,4 @@
--- Before the horizon's end no tick ends a frame, and none tells anything: for callers that jump over many ticks, over the rules alone.
+-- Before the horizon's end no tick ends a frame, and none tells anything: for proofs of callers that jump over many ticks.
 use Rattle.std.proofs.Common.{◌≡◌, ℕ, zero, suc, ◌<◌, ◌≤◌, Bool, false, None, sym, refl, ap, ◌∙◌, arith}
 use Rattle.std.proofs.lemmas.Bool.{lt-ltb}
 use Rattle.timing.specs.Run.{times}

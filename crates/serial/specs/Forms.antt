@@ -27,7 +27,8 @@ SoundForm f = (5 ≤ f.length) × (f.length ≤ 8) × (32 ≤ f.ticks) × (f.tic
 abbrev pub masked : Form → ℕ → ℕ
 masked f c = c % 2 ^ f.length
 
--- Whether the parity bit is high, where the ones of the data are odd in number or even: it makes them even or odd with its own.
+-- The level of the parity bit, where the data have an odd number of ones or not: it makes the number even or odd, as the parity says.
+-- Without parity it is low.
 abbrev pub sense : Option Parity → Bool → Bool
 sense None odd = false
 sense (Some Even) odd = odd

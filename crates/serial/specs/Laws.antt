@@ -18,7 +18,7 @@ use Rattle.serial.specs.declared.receiver.Reception.TheVariants.{Character}
 abbrev pub sent : Form → ℕ → Form → Bool → Option ℕ → ℕ → Transmitter
 sent f c g cts b t = times t (ticked g cts) (record { buffer = b; phase = begun f c })
 
--- TxD at the tick t of a frame is the frame's level at t / s; with its last tick the next character loads, or the transmitter is idle.
+-- TxD at the tick t of a frame is the frame's level at t / f.ticks; with its last tick the next character loads, or the transmitter is idle.
 unfoldable pub Sends : Form → ℕ → Type 0
 Sends f c = (g : Form) (cts : Bool) (b : Option ℕ) → ((t : ℕ) → t < frame_ticks f → level (sent f c g cts b t).phase ≡ slice_index_or (frame f c) (t / f.ticks) true) × (sent f c g cts b (frame_ticks f) ≡ offered g cts b)
 

@@ -15,18 +15,14 @@ use Rattle.serial.specs.declared.receiver.Reception.TheVariants.{Break, Characte
 abbrev pub SoundReceiving : Receiving → ℕ → Type 0
 SoundReceiving r n = SoundForm r.form × (1 ≤ r.left) × (r.left ≤ 64) × (r.character < 2 ^ n)
 
--- A receiver receives within its bounds, and a data state waits for the bit at its place, so that one of the character's is missing.
+-- A receiver receives within its bounds. A data stage waits for the bit at its place, which is one of the character's; in the later
+-- stages all of them are gathered.
 abbrev pub SoundReceiver : Receiver → Type 0
 SoundReceiver Idle = Unit {0}
 SoundReceiver (Start r) = SoundReceiving r 0
 SoundReceiver (Data r place) = SoundReceiving r place × (place < r.form.length)
 SoundReceiver (Parity r) = SoundReceiving r r.form.length
 SoundReceiver (Stop r) = SoundReceiving r r.form.length
-
--- A fall gives a sound form.
-abbrev pub SoundEvent : Event → Type 0
-SoundEvent (Fall form) = SoundForm form
-SoundEvent (Tick rxd) = Unit {0}
 
 -- The same reception with another number of ticks to its next sample.
 abbrev pub lasting : ℕ → Receiving → Receiving
@@ -111,7 +107,7 @@ abbrev pub received : Event → Receiver → Option Reception
 received (Fall form) r = None
 received (Tick rxd) r = told rxd r
 
--- How many ticks only count: all before the next sample, and any number of an idle receiver's.
+-- How many ticks only count: all before the next sample, and as many as any skip takes where the receiver is idle.
 abbrev pub quiet_ticks : Receiver → ℕ
 quiet_ticks p = quiet_in (λ r. r.left) p
 

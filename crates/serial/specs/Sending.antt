@@ -69,7 +69,7 @@ past_bit s place = cond (nat_lt (place + 1) s.form.length) (Data (bit_long s) (p
 abbrev pub counting : Sending → (Sending → Phase) → Phase → Phase
 counting s same next = cond (nat_lt 1 s.left) (same (lasting (s.left - 1) s)) next
 
--- One tick of a phase, but for a frame's last.
+-- One tick of a phase, which is not a frame's last.
 abbrev pub passed : Phase → Phase
 passed Idle = Idle
 passed (Start s) = counting s Start (Data (bit_long s) 0)
@@ -93,7 +93,7 @@ fresh = record { buffer = None; phase = Idle }
 abbrev pub begun : Form → ℕ → Phase
 begun form c = Start (record { form = form; character = masked form c; left = form.ticks })
 
--- An idle transmitter loads what its buffer holds, if CTS is low.
+-- A transmitter with nothing on the line, or at a frame's last tick, loads what its buffer holds if CTS is low. Else it is idle.
 abbrev pub offered : Form → Bool → Option ℕ → Transmitter
 offered form cts None = fresh
 offered form true (Some c) = record { buffer = Some c; phase = Idle }
@@ -111,7 +111,7 @@ written c form cts t = cond (idle t.phase) (offered form cts (Some c)) (record {
 abbrev pub released : Form → Transmitter → Transmitter
 released form t = cond (idle t.phase) (offered form false t.buffer) t
 
--- How many ticks only count: all of a phase's but its last, and any number of an idle transmitter's.
+-- How many ticks only count: all of a phase's but its last, and as many as any skip takes where nothing is being sent.
 abbrev pub quiet_ticks : Phase → ℕ
 quiet_ticks p = quiet_in (λ s. s.left) p
 

@@ -4,7 +4,7 @@ use Rattle.serial.specs.Far.{far}
 use Rattle.serial.specs.declared.stage.Stage.{Stage}
 use Rattle.serial.specs.declared.stage.Stage.TheVariants.{Idle, Start, Data, Parity, Stop}
 
--- How many ticks only count: all of a stage's but its last, and any number where nothing is under way.
+-- How many ticks only count: all of a stage's but its last, and as many as any skip takes where nothing is under way.
 abbrev pub quiet_in : {F : Type 0} → (F → ℕ) → Stage F → ℕ
 quiet_in left Idle = far
 quiet_in left (Start f) = left f - 1

@@ -5,7 +5,7 @@ ghost use Rattle.serial.specs.Forms.{form_of, parity_of, stops_of, SoundForm, ha
 use crate::rate::bit_ticks;
 use std::marker::Model;
 
-/// How many ones data and parity make.
+/// Whether the data and the parity bit together have an even or an odd number of ones.
 #[derive(Clone, Copy)]
 pub enum Parity {
     Even,

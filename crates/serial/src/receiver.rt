@@ -20,7 +20,7 @@ pub struct Receiving {
 }
 
 /// The stage tells what the next sample will be.
-#[derive(Clone, Copy)]
+#[derive(Clone, Copy, Default)]
 pub struct Receiver {
     pub state: Stage<Receiving>,
 }
@@ -40,7 +40,7 @@ impl Model for Receiver {
     ghost inverse = { λ s. record { state = s } };
 }
 
-/// What befalls a receiver.
+/// What happens to a receiver.
 #[derive(Clone, Copy)]
 pub enum Event {
     /// RxD fell, with the form that commands give now.
@@ -60,7 +60,7 @@ pub enum Reception {
     },
 }
 
-// Like the impl for `Sending`: a macro of the repository may write neither.
+// Like the impl for `Sending`: a `macro_rules!` of this repository may write no impl.
 impl Lasting for Receiving {
     ghost ticks_left = { λ r. r.left };
 
@@ -81,7 +81,7 @@ impl Receiver {
     pub fn new() -> Receiver
         ensures { result ≡ Stage.Idle }
     {
-        Receiver { state: Stage::Idle }
+        Receiver::default()
     }
 
     /// Takes an edge or a tick, and tells what was received with it.
@@ -130,7 +130,7 @@ impl Receiver {
         self.state = self.state.lessened(ticks as u32);
     }
 
-    /// How many ticks pass before the one that samples.
+    /// How many ticks pass before the one that samples; while it is idle, the cap of every horizon.
     pub fn horizon(&self) -> u64
         ensures value { result ≡ quiet_ticks self.now }
         ensures sound { SoundReceiver self.now }
@@ -139,8 +139,9 @@ impl Receiver {
     }
 }
 
-// How much is gathered depends on the stage, and an enum has no model. These steps ask for it themselves, which is plainer than a
-// struct for each stage; a `Receiver` keeps it for its callers.
+// How much is gathered depends on the stage. These private functions ask for it themselves; a `Receiver` keeps it for its callers.
+// A stage is an enum, which has no model. A model of the frame in it, `Receiving`, would owe at least one tick left in each step
+// that sets the ticks (`Lasting::lasting`, `less`). A struct round each stage is no plainer.
 impl Receiving {
     fn begun(form: Form) -> Receiving
         ensures value { result ≡ begun form }
@@ -166,6 +167,8 @@ impl Receiving {
         }
     }
 
+    // The place, here and in `past_bit`, comes from a stage, which holds a number: a `Place` is no plainer, since the character's
+    // length bounds it too.
     #[tactic(auto, using(crate::proofs::Gathered::one_more))]
     fn with_bit(self, place: u8, rxd: bool) -> Receiving
         requires sound { SoundReceiving self place }
@@ -190,7 +193,8 @@ impl Receiving {
         }
     }
 
-    // One text with the sender's is no plainer: a sender sets its ticks at each of these steps, a receiver keeps those of its sample.
+    // The place as in `with_bit`. One text with the sender's is no plainer: a sender sets its ticks at each of these steps, a receiver
+    // keeps those of its sample.
     fn past_bit(self, place: u8) -> Stage<Receiving>
         requires sound { SoundReceiving self (place + 1) }
         requires place { place < self.form.length }

@@ -3,7 +3,8 @@ ghost use Rattle.std.specs.Prelude.{◌≡◌, ℕ, ◌-◌};
 ghost use Rattle.serial.specs.Stages.{quiet_in, lessened_in};
 
 // The horizon where nothing is under way. An `Option` is no plainer: the rule of a horizon names this cap, callers take the least
-// of several, and no skip is longer.
+// of several, and no skip is longer. The crate timers has the same cap; it is not in timing,
+// the crate below both, which knows no horizon.
 const FAR: u64 = 16_777_216;
 
 /// A frame in one of its stages, which lasts so many ticks more.
@@ -28,8 +29,9 @@ pub(crate) trait Lasting: Copy {
 }
 
 /// Which part of its frame a transmitter or a receiver is in.
-#[derive(Clone, Copy)]
+#[derive(Clone, Copy, Default)]
 pub enum Stage<F> {
+    #[default]
     Idle,
     Start(F),
     /// The data bit at this place, the lowest at 0.
@@ -39,7 +41,7 @@ pub enum Stage<F> {
 }
 
 impl<F: Lasting> Stage<F> {
-    /// How many ticks pass with nothing but counting.
+    /// How many ticks pass with nothing but counting: all of a stage's but its last, and `FAR` where nothing is under way.
     pub(crate) fn horizon(&self) -> u64
         ensures { result ≡ quiet_in F.ticks_left self.now }
     {

@@ -18,7 +18,7 @@ pub struct Sending {
     pub left: u32,
 }
 
-#[derive(Clone, Copy)]
+#[derive(Clone, Copy, Default)]
 pub struct Transmitter {
     pub buffer: Option<u8>,
     pub phase: Stage<Sending>,
@@ -54,14 +54,13 @@ impl Lasting for Sending {
     }
 }
 
+// A struct of `form` and `cts`, which `write`, `tick` and `offer` take together, is no plainer: callers read the two from
+// different places.
 impl Transmitter {
     pub fn new() -> Transmitter
         ensures { result ≡ fresh }
     {
-        Transmitter {
-            buffer: None,
-            phase: Stage::Idle,
-        }
+        Transmitter::default()
     }
 
     pub fn txd(&self) -> bool
@@ -98,7 +97,7 @@ impl Transmitter {
         self.tre() && self.offer(form, cts)
     }
 
-    /// CTS fell: loads what waits. Tells whether level 5 is requested.
+    /// CTS fell: loads what waits, if nothing is being sent. Tells whether level 5 is requested.
     pub fn release(&mut self, form: Form) -> bool
         ensures value { result ≡ (idle self.old.phase && is_some self.old.buffer) }
         ensures after { self.new ≡ released form self.old }
@@ -131,7 +130,7 @@ impl Transmitter {
         self.phase = self.phase.lessened(ticks as u32);
     }
 
-    /// How many ticks pass with nothing but counting.
+    /// How many ticks pass with nothing but counting; while nothing is being sent, the cap of every horizon.
     pub fn horizon(&self) -> u64
         ensures value { result ≡ quiet_ticks self.now.phase }
         ensures sound { SoundTransmitter self.now }
@@ -139,7 +138,8 @@ impl Transmitter {
         self.phase.horizon()
     }
 
-    // With nothing being sent, the buffer loads if CTS is low. Tells whether it did.
+    // At a frame's last tick, or with nothing being sent: a full buffer loads if CTS is low, else the transmitter is idle. Tells
+    // whether it loaded.
     fn offer(&mut self, form: Form, cts: bool) -> bool
         ensures value { result ≡ (is_some self.old.buffer && not cts) }
         ensures after { self.new ≡ offered form cts self.old.buffer }
@@ -158,8 +158,9 @@ impl Transmitter {
     }
 }
 
-// An enum has no model. These steps say the bounds of a phase themselves, which is plainer than a struct for each stage; a
-// `Transmitter` keeps them for its callers.
+// These private functions ask for the bounds of a phase themselves; a `Transmitter` keeps them for its callers. A phase is an enum,
+// which has no model. A model of the frame in it, `Sending`, would owe at least one tick left in each step that sets the ticks
+// (`Lasting::lasting`, `less`). A struct round each stage is no plainer.
 impl Stage<Sending> {
     fn begun(form: Form, character: u8) -> Stage<Sending>
         ensures value { result ≡ begun form character }
@@ -179,7 +180,7 @@ impl Stage<Sending> {
         matches!(self, Stage::Stop(sending) if sending.left <= 1)
     }
 
-    // One tick, but for a frame's last.
+    // One tick that is not a frame's last.
     fn passed(self) -> Stage<Sending>
         requires { SoundPhase self }
         ensures value { result ≡ passed self }

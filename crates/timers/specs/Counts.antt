@@ -10,7 +10,7 @@ lowered m c = cond (c == 0) (m - 1) (c - 1)
 abbrev pub fires : ℕ → Bool
 fires c = c == 1
 
--- The steps until the count is 0 by a step from 1.
+-- How many steps lead to the request, the step from 1 to 0: a whole round from 0.
 abbrev pub distance : ℕ → ℕ → ℕ
 distance m c = cond (c == 0) m c
 
@@ -27,7 +27,7 @@ behind m n c = (c + (m - n % m)) % m
 abbrev pub far : ℕ
 far = 16777216
 
--- The steps before the one that requests, where the count is heeded.
+-- The steps before the one that requests, or `far` where the count is not heeded.
 abbrev pub wait : Bool → ℕ → ℕ → ℕ
 wait heeded m c = cond heeded (distance m c - 1) far
 

@@ -42,7 +42,7 @@ abbrev pub duo_fired : Drive → Duo → Units
 duo_fired (Apart l h) d = record { low = l && fires d.low.count; high = h && fires d.high.count; pair = false }
 duo_fired (Joined on) d = record { low = false; high = false; pair = on && fires (value_of d) }
 
--- The steps before the one in which a watched unit requests.
+-- The steps before the one in which a watched unit requests, or `far` where none does.
 abbrev pub duo_wait : Drive → Units → Duo → ℕ
 duo_wait (Apart l h) w d = min (wait (l && w.low) 256 d.low.count) (wait (h && w.high) 256 d.high.count)
 duo_wait (Joined on) w d = wait (on && w.pair) 65536 (value_of d)

@@ -79,7 +79,7 @@ even_watch w = record { low = w.two; high = w.four; pair = w.four }
 abbrev pub odd_watch : Fired → Units
 odd_watch w = record { low = w.three; high = w.five; pair = w.three }
 
--- The steps before the one in which a watched timer requests: the least over timer 1 and the duos.
+-- The steps before the one in which a watched timer requests, or `far` where none does: the least over timer 1 and the duos.
 abbrev pub quiet_for : TimerModes → Fired → Timers → ℕ
 quiet_for m w t =
     min (wait w.one 256 t.one.count)

@@ -7,7 +7,8 @@ ghost use Rattle.timers.specs.Counts.{lowered, fires, distance, fires_within, be
 // Longer than any count takes to request. A cap and no Option: callers take the least of it and other spans, and the horizon's law names it.
 pub const FAR: u64 = 16_777_216;
 
-// The steps until the count is 0 by a step from 1: a request falls within n steps exactly if n is as many.
+// How many steps lead to the request, which is the step from 1 to 0 (from 0 a whole round): a request falls within n steps exactly if
+// n is at least this many.
 #[tactic(auto, using(crate::proofs::Lowering::fires_within_lem))]
 pub fn until_zero(modulus: u32, count: u32) -> u32
     requires wide { 1 < modulus }
@@ -18,7 +19,7 @@ pub fn until_zero(modulus: u32, count: u32) -> u32
     if count == 0 { modulus } else { count }
 }
 
-// The steps before the request of a heeded count.
+// The steps before the request of a count, or `FAR` where the count is not heeded.
 fn quiet_steps(heeded: bool, modulus: u32, count: u32) -> u64
     requires wide { 1 < modulus }
     requires below { count < modulus }
@@ -70,7 +71,8 @@ pub(crate) trait Count: Copy {
         *self = self.back(n);
     }
 
-    // The steps before the one in which the count requests, where it is on and watched.
+    // The steps before the one in which the count requests, where it is on and watched; else `FAR`. Both flags are part of the value:
+    // an `if .. else { FAR }` at each call is no plainer.
     final fn wait(self, on: bool, watched: bool) -> u64
         ensures value { result ≡ wait (on && watched) MODULUS (number self) }
         ensures quiet { (k : ℕ) → k < result → ((on && fires (times k (when on (lowered MODULUS)) (number self))) && watched) ≡ false }
@@ -80,7 +82,7 @@ pub(crate) trait Count: Copy {
     }
 }
 
-// Two impls alike, one for each width: a macro of the repository may write none.
+// Two impls alike, one for each width: a `macro_rules!` of this repository may write no impl.
 impl Count for u8 {
     ghost MODULUS = { 256 };
 

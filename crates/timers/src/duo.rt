@@ -110,7 +110,7 @@ impl Duo {
         }
     }
 
-    // The steps before the one in which a watched unit requests.
+    // The steps before the one in which a watched unit requests, or `FAR` where none does.
     pub(crate) fn wait(&self, drive: Drive, watched: Units) -> u64
         ensures value { result ≡ duo_wait drive watched self.now }
         ensures quiet { (k : ℕ) → k < result → DuoQuiet (duo_fired drive (times k (duo_stepped drive) self.now)) watched }

@@ -11,7 +11,7 @@ pub struct TimerModes {
     pub even: DuoModes,
     // Timers 3 and 5: T35 and CT3.
     pub odd: DuoModes,
-    // Timer 5 rests until its trigger.
+    // T5C: P15 loads timer 5 or its pair, which rests from the write that sets this until P15 falls.
     pub t5c: bool,
 }
 
@@ -31,7 +31,7 @@ pub enum Side {
     Odd,
 }
 
-// A set of timers: those that went from 1 to 0, a pair as the timer on whose level it requests, or those that are watched.
+// A set of timers: those that went from 1 to 0, or those watched. A pair stands in it as the timer whose level it has.
 #[derive(Clone, Copy)]
 pub struct Fired {
     pub one: bool,
@@ -78,7 +78,8 @@ impl Fired {
         }
     }
 
-    // Not one function of the side, which is no plainer, since it would only match on it: the even pair requests as its high timer, the odd one as its low timer.
+    // Two functions, since one over `Side` would only match on it: the pair 2 and 4 requests on timer 4's level, the pair 3 and 5 on
+    // timer 3's.
     pub(crate) fn even_units(self) -> Units
         ensures { result ≡ even_watch self }
     {

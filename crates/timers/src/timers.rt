@@ -58,7 +58,7 @@ impl Timers {
         self.odd.skip(n, drive);
     }
 
-    // The steps before the one in which a watched timer requests.
+    // The steps before the one in which a watched timer requests, or `FAR` where none does.
     pub fn horizon(&self, modes: TimerModes, watched: Fired) -> u64
         ensures value { result ≡ quiet_for modes watched self.now }
         ensures quiet { (k : ℕ) → k < result → Quiet (firing modes (times k (stepped modes) self.now)) watched }
@@ -73,7 +73,8 @@ impl Timers {
         one.min(even.min(odd))
     }
 
-    // A rise on the pin that timer 2 counts under CT2, or timer 3 under CT3: it alone or, unless that rests, its pair; the timers that go from 1 to 0.
+    // A rise of P12 (timer 2) or P13 (timer 3). Under CT2 or CT3 it steps that timer or, if joined, its pair, unless the pair rests.
+    // Tells the timers that go from 1 to 0.
     pub fn count_edge(&mut self, side: Side, modes: TimerModes) -> Fired
         ensures tells { result ≡ edge_firing side modes self.old }
         ensures state { self.new ≡ edge_counted side modes self.old }
@@ -91,7 +92,8 @@ impl Timers {
         }
     }
 
-    // A fall on the trigger pin. A load is no step: nothing requests.
+    // A fall of P15. Under T5C timer 5 takes the saved byte, its pair's low timer 255, and the rest ends. A load is no step: nothing
+    // requests.
     pub fn trigger(&mut self, modes: TimerModes)
         ensures { self.new ≡ triggered modes self.old }
     {
@@ -104,7 +106,7 @@ impl Timers {
         }
     }
 
-    // Under T5C a byte for timer 5 is saved for the trigger.
+    // A byte written to a timer. Under T5C a byte for timer 5 is saved for the trigger.
     pub fn write(&mut self, which: Number, byte: u8, t5c: bool)
         ensures { self.new ≡ written which byte t5c self.old }
     {
@@ -131,7 +133,7 @@ impl Timers {
         }
     }
 
-    // The trigger mode before and after a write of the mode.
+    // A write of the mode, with T5C before and after it: turned on it starts the rest, left on it keeps it, off it ends it.
     pub fn select(&mut self, before: bool, after: bool)
         ensures { self.new ≡ selected before after self.old }
     {
