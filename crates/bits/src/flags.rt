@@ -1,5 +1,5 @@
-// Eight flags as a byte: bit n of the byte is place n of the set. Functions, and no `From`: neither an array nor a byte is
-// a type of this crate.
+// Eight flags as a byte: bit n of the byte is place n of the set. Functions: neither an array nor a byte is a type of
+// this crate, so an impl of `From` may not stand here.
 ghost use Rattle.std.specs.Prelude.{◌≡◌};
 ghost use Rattle.bits.specs.Bytes.{flags, byte};
 

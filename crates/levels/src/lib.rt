@@ -1,4 +1,5 @@
-// The eight interrupt levels: which request, which are in service, and which one is ready.
+// The eight interrupt levels: which request, which are in service, and which one is ready. Sets of levels are plain arrays: a
+// type is no plainer, since nothing always holds of a set but its length.
 
 #![tactic(auto)]
 

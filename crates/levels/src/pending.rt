@@ -18,7 +18,8 @@ impl Pending {
         Pending::default()
     }
 
-    // The level that taking picks.
+    // The level that taking picks. A struct of mask, pin and nesting, here and in `requesting`, is no plainer: the stand-in has them
+    // in three places.
     pub fn due(&self, mask: &[bool; 8], extint: bool, nesting: bool) -> Option<Level>
         ensures { result ≡ due self.now mask.now extint nesting }
     {

@@ -2,8 +2,8 @@
 ghost use Rattle.std.specs.Prelude.{◌≡◌, ◌+◌, ◌%◌, ◌^◌, ◌<◌, ◌&&◌, length, if◌then◌else◌, ◌==◌, nat_lt};
 ghost use Rattle.listing.specs.Columns.{justified};
 
-// Fills all the columns with the number, which has at most as many digits as there are columns. By hand, since the columns are
-// the line's own bytes and no text is made for a number.
+// Fills all the columns with the number, which has at most as many digits as there are columns. By hand: std says nothing
+// of the bytes that `write!` leaves in a slice, and a `Vec`, of which it does, wants the heap.
 #[tactic(auto, using(crate::proofs::Places::rest_more, crate::proofs::Places::byte_is, crate::proofs::Places::one_more))]
 pub(crate) fn write_number(columns: &mut [u8], number: u64)
     requires fits { number < 10 ^ length columns.old }

@@ -115,8 +115,8 @@ impl StandIn {
         dividers.prescaler.reach(internals, clock_ratio(registers))
     }
 
-    // Many clocks at once, of which none is past the horizon. That there are at most 16,777,216 is asked of the caller: it concerns
-    // this call only.
+    // Many clocks at once, of which none is past the horizon. That there are at most 16,777,216 is asked of the
+    // caller: a type for so few clocks is no plainer, since each turn of the board's `run` would make one.
     pub fn skip(&mut self, clocks: u64)
         requires still { Still clocks self.old }
         requires short { clocks ≤ 16777216 }

@@ -22,7 +22,8 @@ impl Drop for Guard<'_> {
     }
 }
 
-// Reads the listed registers in turn, as the bus would, into the front of `place`.
+// Reads the listed registers in turn, as the bus would, into the front of `place`. A struct of registers and place, here and in
+// the calls above, is no plainer: the one is read and the other written. It takes the two records for the reason in `read.rt`.
 pub fn look(
     rest: &Rest,
     sensitive: &mut Sensitive,

@@ -10,6 +10,7 @@ use std::alloc::Global;
 use std::io;
 use std::io::{BufReader, BufWriter, Read, Write};
 
+// A struct of the three parameters, here and in the calls below and above, is no plainer: a caller has them apart and hands them on.
 /// Runs a script on a bench at power-up, and writes its listing. The bench lists no marks, so its recorders have no room.
 pub fn list_script<R: Read, W: Write>(
     alloc: Global,

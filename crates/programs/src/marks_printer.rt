@@ -49,6 +49,7 @@ pub fn print_script_marks<R: Read, W: Write>(
 ) -> io::Result<()>
     ensures { OnOk result (IfSome (R.remaining script.old) (λ bytes. Appends (W.contents output.old) (W.contents output.new) (marks_of bytes (start (last_heard true) 1000000 1000000)))) }
 {
+    // Literals: they only fill the room.
     let blank_wire = WireMark {
         clock: 0,
         line: Line::TxD,
@@ -62,6 +63,7 @@ pub fn print_script_marks<R: Read, W: Write>(
     print_recorders(output, &bench.recorders)
 }
 
+// Like `list`: a closure for what runs is no plainer, since its bound has to name both streams.
 /// The script on standard input, its marks on standard output.
 pub fn print_marks(rt: &HostRuntime) -> io::Result<()> {
     let mut script = BufReader::new(rt.alloc(), rt.stdin())?;

@@ -19,7 +19,7 @@ pub fn until_zero(modulus: u32, count: u32) -> u32
     if count == 0 { modulus } else { count }
 }
 
-// The steps before the request of a count, or `FAR` where the count is not heeded.
+// The steps before the request of a count, or `FAR` where the count is not heeded: the flag is part of the value, as in `wait`.
 fn quiet_steps(heeded: bool, modulus: u32, count: u32) -> u64
     requires wide { 1 < modulus }
     requires below { count < modulus }

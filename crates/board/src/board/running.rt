@@ -80,7 +80,8 @@ impl<P: Partner> Board<P> {
         steady.min(self.unit.horizon())
     }
 
-    // Many clocks in which no line changes and nothing is recorded. What it asks concerns this call only, so no type can say it.
+    // Many clocks in which no line changes and nothing is recorded. A type for so few clocks is no plainer, since each turn
+    // of `run` would make one; what else it asks concerns this call only.
     fn skip(&mut self, clocks: u64)
         requires short { clocks ≤ 16777216 }
         requires fits { self.old.clock + clocks ≤ last_clock }
@@ -96,8 +97,8 @@ impl<P: Partner> Board<P> {
         self.partner.advance(clocks);
     }
 
-    // Skips up to where something can happen, runs that clock, and goes on. What it asks concerns this call only, so no type
-    // can say it.
+    // Skips up to where something can happen, runs that clock, and goes on. What it asks concerns this call only; a type
+    // for it is no plainer, since `span` would make one to hand it on.
     pub(super) fn run(&mut self, clocks: u64, wires: &mut Recorder<'_, WireMark>)
         requires short { clocks ≤ 16777216 }
         requires fits { self.old.clock + clocks ≤ last_clock }
