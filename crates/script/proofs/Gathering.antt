@@ -3,7 +3,7 @@ use Rattle.std.proofs.Common.{◌≡◌, ℕ, zero, suc, ◌<◌, Bool, true, fa
 use Rattle.std.proofs.lemmas.Bool.{both_ways}
 use Rattle.std.proofs.lemmas.Bool.Decides.{nat_tests}
 use Rattle.std.proofs.Math.Seq.{take-nil}
-use Rattle.std.specs.Io.KnownBytes.{Consumes, Keeps, IsAtEnd, ReadConsumes}
+use Rattle.std.specs.Io.KnownBytes.{Consumes, IsAtEnd, ReadConsumes}
 use Rattle.script.specs.Inputs.{first_of, after_first, first_kept}
 
 -- of an input of these bytes a line is gathered so far, and so many bytes are left
@@ -28,13 +28,6 @@ consumed left bs old new e h = at new (subst (λ o. Consumes o new bs) e h)
     at : (new : Option (List ℕ)) → Consumes (Some left) new bs → (ys : List ℕ) × (new ≡ Some ys) × (left ≡ bs ++ ys)
     at None h = absurd h
     at (Some ys) h = (ys, refl, h)
-
-kept_known : (left : List ℕ) (old new : Option (List ℕ)) → old ≡ Some left → Keeps old new → new ≡ Some left
-kept_known left old new e h = at new (subst (λ o. Keeps o new) e h)
-  where
-    at : (new : Option (List ℕ)) → Keeps (Some left) new → new ≡ Some left
-    at None h = absurd h
-    at (Some ys) h = ap (λ x. Some x) h
 
 -- a read that gave no byte, with room for one
 pub none_read : {E : Type 0} (old new : Option (List ℕ)) (buf : List ℕ) (r : Result ℕ E) (n : ℕ) → ReadConsumes old new r buf → r ≡ Ok n → n ≡ 0 → 0 < length buf
@@ -127,7 +120,3 @@ module _ (kept : ℕ) (bytes line : List ℕ) (any : Bool) (old new : Option (Li
           found = λ _. nonempty any g.found g.fresh;
           fresh = λ x. absurd (both_ways true x refl);
         }
-
-  -- an interrupted read leaves all as it was
-  pub interrupted : Keeps old new → Gathered kept bytes line any new
-  interrupted h = subst (λ o. Gathered kept bytes line any o) (sym (kept_known g.left old new g.known h ∙ sym g.known)) g

@@ -1,5 +1,5 @@
 ghost use Rattle.script.specs.Lines.{kept_bytes, DecidedBy, StartDecides};
-ghost use Rattle.std.specs.Prelude.{◌≡◌, ◌≤◌, [], ◌∷◌, ◌++◌, take, is_ok, if◌then◌else◌};
+ghost use Rattle.std.specs.Prelude.{◌≡◌, ◌≤◌, [], ◌∷◌, ◌++◌, length, take, is_ok, if◌then◌else◌};
 
 use super::LineBuffer;
 use std::alloc::{AllocError, Global};
@@ -35,6 +35,7 @@ impl<const KEPT: usize> LineBuffer<KEPT> {
     #[tactic(auto, using(crate::proofs::Start::start_decides, crate::proofs::Start::more_decides))]
     pub fn bytes(&self) -> &[u8]
         ensures value { result.now ≡ self.now }
+        ensures few { length result.now ≤ KEPT }
         ensures start { StartDecides }
         ensures more { kept_bytes ≤ KEPT → DecidedBy KEPT }
     {

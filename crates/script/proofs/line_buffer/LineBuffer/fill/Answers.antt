@@ -1,7 +1,6 @@
 use Rattle.std.proofs.Common.{arith}
-use Rattle.script.proofs.Gathering.{if_known, none_read, ended_line, ended_rest, line_line, line_rest, more, interrupted}
+use Rattle.script.proofs.Gathering.{if_known, none_read, ended_line, ended_rest, line_line, line_rest, more}
 use Rattle.script.proofs.line_buffer.LineBuffer.fill.Goals as goal
-use Rattle.script.proofs.line_buffer.LineBuffer.fill.Goals.{in-Ok-2+in_ok-push-in-Ok-2, in-Err}
 
 pub returns-in-Ok-eq0-clause-line : goal.returns-in-Ok-eq0-clause-line
 returns-in-Ok-eq0-clause-line g c =
@@ -23,11 +22,7 @@ returns-in-Ok-clause-rest g c =
 
 pub loop-preserved : goal.loop-preserved
 loop-preserved g c bytes e =
-    elim c.match-read.branch [
-      | in-Ok-2+in_ok-push-in-Ok-2 w ↦
-          (let pushed = rw w.in_ok-push-in-Ok-2.was at w.push.ensures in
-          rw (w.self-is, w.any-is, pushed) (
-          more _ bytes _ _ _ _ (c.loop.invariant bytes e) _ _ c.read.auto.buf (omega (arith, w.in-Ok.field-0-test.1)) w.in-Ok.ensures.bytes.0 w.if-byte-eq10.false
-          ))
-      | in-Err w ↦ rw (w.self-is, w.any-is) (interrupted _ bytes _ _ _ _ (c.loop.invariant bytes e) w.in-Err.ensures.bytes)
-    ]
+    let pushed = rw c.in_ok-push-in-Ok-2.was at c.push.ensures in
+    rw pushed (
+    more _ bytes _ _ _ _ (c.loop.invariant bytes e) _ _ c.read.auto.buf (omega (arith, c.in-Ok.field-0-test.1)) c.in-Ok.ensures.bytes.0 c.if-byte-eq10.false
+    )
