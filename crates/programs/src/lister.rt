@@ -32,3 +32,19 @@ pub fn list(rt: &HostRuntime) -> io::Result<()> {
     list_script(rt.alloc(), &mut script, &mut listing)?;
     listing.flush()
 }
+
+#[cfg(test)]
+mod tests {
+    use super::list_script;
+    use std::io;
+
+    #[test]
+    fn a_script_is_listed(rt: HostRuntime) -> io::Result<()> {
+        let mut script = b"* timer 1\nWR         5   1\nRD        32   0\n".as_slice();
+        let expected = "    2 OK   0               0\n    3 NO   1               0\n";
+        let mut listing = Vec::new(rt.alloc());
+        list_script(rt.alloc(), &mut script, &mut listing)?;
+        assert!(rt; listing.as_slice() == expected.as_bytes());
+        Ok(())
+    }
+}

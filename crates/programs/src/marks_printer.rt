@@ -71,3 +71,22 @@ pub fn print_marks(rt: &HostRuntime) -> io::Result<()> {
     print_script_marks(rt.alloc(), &mut script, &mut output)?;
     output.flush()
 }
+
+#[cfg(test)]
+mod tests {
+    use super::print_script_marks;
+    use std::io;
+
+    // The first bits of 55H round the loopback plug.
+    #[test]
+    fn the_marks_of_a_script_are_printed(rt: HostRuntime) -> io::Result<()> {
+        let mut script =
+            b"WR         1  52\nWR         2 192\nWR         5  48\nWR         7  85\nCK       107   0\n".as_slice();
+        let expected =
+            "W 0 TxD 0\nW 0 RxD 0\nW 0 INT 1\nW 107 TxD 1\nW 107 RxD 1\nturned away: 0 wire, 0 service\n";
+        let mut output = Vec::new(rt.alloc());
+        print_script_marks(rt.alloc(), &mut script, &mut output)?;
+        assert!(rt; output.as_slice() == expected.as_bytes());
+        Ok(())
+    }
+}
