@@ -2,6 +2,7 @@
 use Rattle.std.specs.Prelude.{ℕ, zero, suc, ◌≤◌, Bool, cond, List, [], ◌++◌}
 use Rattle.line.specs.Meaning.{Meaning, shown, ticked, hearing}
 use Rattle.muart.specs.declared.state.StandIn.{StandIn}
+use Rattle.muart.specs.Bounds.{Sound}
 use Rattle.muart.specs.Reading.{int_high}
 use Rattle.muart.specs.Serial.{txd_level, rxd_set}
 use Rattle.muart.specs.Clock.{clocked}
@@ -71,4 +72,5 @@ last_clock = 500000000000000
 
 -- what holds of every board
 pub record Bounds {P : Type 0} (b : Parts P) : Type 0 where
+  pub sound : Sound b.unit
   pub within : b.clock ≤ last_clock

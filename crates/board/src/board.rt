@@ -13,13 +13,14 @@ pub struct Board<P> {
     clock: u64,
 }
 
-// Its bounds hold whatever calls are made, so no call need ask for them.
+// The clock number keeps within its bound whatever calls are made, and the unit keeps its own, so no call need ask for them.
 impl<P> Model for Board<P> {
-    ghost use Rattle.board.specs.Views.{Parts, parts, Bounds};
+    ghost use Rattle.std.specs.Prelude.{◌≤◌};
+    ghost use Rattle.board.specs.Views.{Parts, parts, last_clock};
 
     ghost Value = { Parts P };
 
     ghost view = { λ b. parts b.unit b.partner b.clock };
 
-    ghost invariant = { λ b. Bounds (parts b.unit b.partner b.clock) };
+    ghost invariant = { λ b. b.clock ≤ last_clock };
 }

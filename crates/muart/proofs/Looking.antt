@@ -26,7 +26,7 @@ abbrev pub so_far : List ℕ → Rest → Sensitive → List ℕ → ℕ → Lis
 so_far ns r s p i = take i p ++ looked (drop i ns) r s (drop i p)
 
 module _ (r : Rest) (s : Sensitive) (i : ℕ) (ns p : List ℕ) where
-  reads : (g : Register) → i < length ns → length ns ≤ length p → register_of (get_or ns i 0) ≡ Some g → so_far ns r s p i ≡ so_far ns r (read_leaves g r s) (set p i (read_byte g r s)) (i + 1)
+  pub reads : (g : Register) → i < length ns → length ns ≤ length p → register_of (get_or ns i 0) ≡ Some g → so_far ns r s p i ≡ so_far ns r (read_leaves g r s) (set p i (read_byte g r s)) (i + 1)
   reads g h k e =
       let room : i < length p = omega arith in
       rw (drop_more ns i 0 h, drop_more p i 0 room, e, looked, take_more_set p i (read_byte g r s) room, drop-set-lt (i + 1) p i (read_byte g r s) (omega arith))
@@ -38,7 +38,7 @@ module _ (r : Rest) (s : Sensitive) (i : ℕ) (ns p : List ℕ) where
       rw (drop_more ns i 0 h, drop_more p i 0 room, e, looked, ← drop_more p i 0 room) (take-append-drop i p)
 
 module _ (ns : List ℕ) (i : ℕ) where
-  known_reads : (g : Register) → i < length ns → register_of (get_or ns i 0) ≡ Some g → all_known (drop i ns) ≡ all_known (drop (i + 1) ns)
+  pub known_reads : (g : Register) → i < length ns → register_of (get_or ns i 0) ≡ Some g → all_known (drop i ns) ≡ all_known (drop (i + 1) ns)
   known_reads g h e = rw (drop_more ns i 0 h, e, all_known) refl
 
   pub known_stops : i < length ns → register_of (get_or ns i 0) ≡ None → all_known (drop i ns) ≡ Err NoSuchRegister

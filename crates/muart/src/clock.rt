@@ -4,7 +4,7 @@ ghost use Rattle.timing.specs.Run.{times};
 ghost use Rattle.serial.specs.Rates.{rate_step};
 ghost use Rattle.registers.specs.Words.{prescale_of, divide_of};
 ghost use Rattle.muart.specs.Serial.{rate_in};
-ghost use Rattle.muart.specs.Bounds.{Sound};
+ghost use Rattle.muart.specs.Bounds.{SoundDividers};
 ghost use Rattle.muart.specs.Clock.{timer_step, timed, rated, internal_clock, clocked, ticks_in, quiet_rate_ticks, quiet_at_rate, quiet_clocks, Still};
 
 use crate::state::StandIn;
@@ -103,7 +103,7 @@ impl StandIn {
     // How many clocks pass with nothing but counts, dividers and ticks within a bit moving.
     pub fn horizon(&self) -> u64
         ensures value { result ≡ quiet_clocks self.now }
-        ensures sound { Sound self.now }
+        ensures sound { SoundDividers self.now }
         ensures still { (n : ℕ) → n ≤ result → Still n self.now }
     {
         let registers = &self.rest.registers;

@@ -1,4 +1,6 @@
 // What the stand-in holds.
+ghost use Rattle.muart.specs.Bounds.{Sound};
+
 use levels::{Level, Pending};
 use registers::held::{Pins, Registers};
 use serial::receiver::Receiver;
@@ -64,11 +66,24 @@ impl Model for StandIn {
 
     ghost Value = { Parts };
 
-    ghost use Rattle.muart.specs.Bounds.{Sound};
+    ghost use Rattle.muart.specs.Bounds.{SoundDividers};
 
     ghost view = { λ a. record { rest = a.rest; sensitive = a.sensitive } };
 
-    ghost invariant = { λ a. Sound (record { rest = a.rest; sensitive = a.sensitive }) };
+    ghost invariant = { λ a. SoundDividers (record { rest = a.rest; sensitive = a.sensitive }) };
 
     ghost inverse = { λ v. record { rest = v.rest; sensitive = v.sensitive } };
+}
+
+impl StandIn {
+    // A caller learns here what holds of every stand-in: the transmitter, the receiver and a begun level each tell what they keep.
+    pub fn bounds(&self)
+        ensures { Sound self.now }
+    {
+        let _ = self.rest.serial.transmitter.horizon();
+        let _ = self.rest.serial.receiver.horizon();
+        if let Some(level) = &self.rest.begun {
+            let _ = level.number();
+        }
+    }
 }

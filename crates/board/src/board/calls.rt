@@ -54,6 +54,7 @@ impl<P: Partner> Board<P> {
         ensures within { result ≤ last_clock }
         ensures bounds { Bounds self.now }
     {
+        self.unit.bounds();
         self.clock
     }
 
