@@ -6,3 +6,6 @@ use Rattle.muart.specs.declared.state.Sensitive.{Sensitive}
 pub record Parts : Type 0 where
   pub rest : Rest
   pub sensitive : Sensitive
+
+abbrev pub parts : Rest → Sensitive → Parts
+parts r v = record { rest = r; sensitive = v }

@@ -1,12 +1,25 @@
 // Setting the outside level of a pin.
 ghost use Rattle.std.specs.Prelude.{◌≡◌};
+ghost use Rattle.muart.specs.Parts.{Parts};
 ghost use Rattle.muart.specs.PinCalls.{rise as rise_of, fall as fall_of, pin_set, pin_tested};
 
 use crate::state::StandIn;
 use levels::Level;
 use refusals::Refusal;
+use registers::held::Registers;
 use registers::pins::Pin;
 use timers::Side;
+
+// The pin of a code, if it can be set from outside. Only the registers count, whatever else a stand-in holds.
+pub fn input_pin(registers: &Registers, code: u8) -> Result<Pin, Refusal>
+    ensures { (s : Parts) → s.rest.registers ≡ registers.now → result ≡ pin_tested code s }
+{
+    let pin = Pin::try_from(code)?;
+    if registers.drives(&pin) {
+        return Err(Refusal::OutputPin);
+    }
+    Ok(pin)
+}
 
 impl StandIn {
     // P12 and P13 count, P17 requests.
@@ -57,10 +70,6 @@ impl StandIn {
     pub fn input_pin(&self, code: u8) -> Result<Pin, Refusal>
         ensures { result ≡ pin_tested code self.now }
     {
-        let pin = Pin::try_from(code)?;
-        if self.rest.registers.drives(&pin) {
-            return Err(Refusal::OutputPin);
-        }
-        Ok(pin)
+        input_pin(&self.rest.registers, code)
     }
 }

@@ -1,5 +1,7 @@
 // Power-up, reset, and writing a register.
 ghost use Rattle.std.specs.Prelude.{◌≡◌};
+ghost use Rattle.muart.specs.Parts.{parts};
+ghost use Rattle.muart.specs.Bounds.{Sound};
 ghost use Rattle.muart.specs.Writing.{reset_to, was_reset, powered_up, lawful as is_lawful, controlled, left_in_service, left_receiving, commanded3, stored, write_answer, write_leaves};
 
 use crate::state::{Dividers, Flags, Rest, Sensitive, Serial, StandIn};
@@ -60,9 +62,25 @@ fn listen_on(receiver: &mut Receiver, word: u8)
     }
 }
 
+// A reset of the two records. Unlike a whole stand-in they may hold dividers out of their bounds. Tells the levels that were in
+// service.
+pub fn reset(rest: &mut Rest, sensitive: &mut Sensitive) -> [bool; 8]
+    ensures closed { result ≡ sensitive.old.levels.service }
+    ensures after { parts rest.new sensitive.new ≡ was_reset (parts rest.old sensitive.old) }
+    ensures sound { Sound (parts rest.new sensitive.new) }
+{
+    let closed = sensitive.levels.service;
+    let cleared = StandIn::cleared(rest.pins, rest.serial.rxd);
+    *rest = cleared.rest;
+    *sensitive = cleared.sensitive;
+    closed
+}
+
 impl StandIn {
-    fn cleared(pins: Pins, rxd: bool) -> StandIn
+    // What a reset leaves. It may be put in place of a stand-in whose parts are out of their bounds too.
+    pub fn cleared(pins: Pins, rxd: bool) -> StandIn
         ensures after { result ≡ reset_to pins rxd }
+        ensures sound { Sound result }
     {
         StandIn {
             rest: Rest {
@@ -88,6 +106,7 @@ impl StandIn {
 
     pub fn power_up(rxd: bool) -> StandIn
         ensures after { result ≡ powered_up rxd }
+        ensures sound { Sound result }
     {
         StandIn::cleared(Pins::default(), rxd)
     }
@@ -96,10 +115,9 @@ impl StandIn {
     pub fn reset(&mut self) -> [bool; 8]
         ensures closed { result ≡ self.old.sensitive.levels.service }
         ensures after { self.new ≡ was_reset self.old }
+        ensures sound { Sound self.new }
     {
-        let closed = self.sensitive.levels.service;
-        *self = StandIn::cleared(self.rest.pins, self.rest.serial.rxd);
-        closed
+        reset(&mut self.rest, &mut self.sensitive)
     }
 
     fn command3(&mut self, word: u8)
