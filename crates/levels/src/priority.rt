@@ -1,6 +1,6 @@
 // Which levels request, and which one of them comes first.
 ghost use Rattle.std.specs.Prelude.{◌≡◌};
-ghost use Rattle.levels.specs.Sets.{lowest, below};
+ghost use Rattle.levels.specs.Sets.{lowest, below, union};
 ghost use Rattle.levels.specs.Levels.{requesting as requests_of, ready as first_ready};
 
 use crate::Level;
@@ -33,14 +33,26 @@ pub(crate) fn lowest_of(set: &[bool; 8]) -> Option<Level>
         .map(|place| Level::new(place as u8))
 }
 
-// The lowest requesting level, if its number is below that of every level in service.
-#[tactic(auto, using(crate::proofs::Lowest::lowest_below))]
+// The lowest level that requests or is in service. `|` reads both, which costs less at each place than a second branch.
+fn lowest_of_either(requests: &[bool; 8], service: &[bool; 8]) -> Option<Level>
+    ensures { result ≡ lowest (union requests.now service.now) }
+{
+    requests
+        .iter()
+        .zip(service)
+        .position(|(request, served)| *request | *served)
+        .map(|level| Level::new(level as u8))
+}
+
+// The lowest requesting level, if its number is below that of every level in service: one walk, to the first place of either.
+#[tactic(auto, using(crate::proofs::Lowest::lowest_unserved))]
 fn lowest_below(requests: &[bool; 8], service: &[bool; 8]) -> Option<Level>
     ensures { result ≡ lowest (below requests.now service.now) }
 {
-    let level = lowest_of(requests)?;
-    match lowest_of(service) {
-        Some(served) if served.number() <= level.number() => None,
-        _ => Some(level),
+    let level = lowest_of_either(requests, service)?;
+    if service[level.index()] {
+        None
+    } else {
+        Some(level)
     }
 }
