@@ -9,6 +9,11 @@ module _ {T : Type 0} where
   all_marked_append [] ns rec = refl
   all_marked_append (m ∷ ms) ns rec = all_marked_append ms ns (marked m rec)
 
+  -- Marking leaves the number of slots.
+  pub room_same : (ms : List T) (rec : Recording T) → (all_marked ms rec).room ≡ rec.room
+  room_same [] rec = refl
+  room_same (m ∷ ms) rec = room_same ms (marked m rec)
+
   -- The kept marks fit their room.
   abbrev pub Within : Recording T → Type 0
   Within rec = length rec.kept ≤ rec.room
@@ -19,6 +24,10 @@ module _ {T : Type 0} where
 
   pub within_marked : (m : T) (rec : Recording T) → Within rec → Within (marked m rec)
   within_marked m rec h = within_one rec.kept rec.room m (ltb (length rec.kept) rec.room) refl h
+
+  pub within_all : (ms : List T) (rec : Recording T) → Within rec → Within (all_marked ms rec)
+  within_all [] rec h = h
+  within_all (m ∷ ms) rec h = within_all ms (marked m rec) (within_marked m rec h)
 
   first_one : (kept ms : List T) (room : ℕ) (m : T) (b : Bool) → ltb (length kept) room ≡ b → length kept ≤ room → take room (cond b (kept ++ m ∷ []) kept ++ ms) ≡ take room (kept ++ m ∷ ms)
   first_one kept ms room m true e h = ap (take room) (append_assoc kept (m ∷ []) ms)

@@ -77,6 +77,11 @@ module _ (step m : ℕ) where
       turns_below (r + 1) (most + 2) at (omega (arith, b, e, h, s, div-mul-le_self d step, suc-mul (most + 1) m)) in
       omega arith
 
+  -- A step wraps at most once.
+  pub turns_le : (n at : ℕ) → turns step m n at ≤ n
+  turns_le zero at = omega arith
+  turns_le (suc n) at = let ih = turns_le n (next step m at) in grind (arith, nat_tests)
+
   -- The wraps of n + k steps are those of n and then of k.
   pub turns_add : (n k at : ℕ) → turns step m (n + k) at ≡ turns step m n at + turns step m k (times n (next step m) at)
   turns_add zero k at = rw (zero-add k) (sym (zero-add (turns step m k at)))
