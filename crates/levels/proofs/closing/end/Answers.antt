@@ -10,4 +10,4 @@ returns-in_err-level c =
 pub returns : goal.returns
 returns c =
     let e = ending (Some c.in_ok-level.level) c.args.service.now c.in_ok-level.ensures in
-    record { closes = c.in_ok-level.ensures; after = search (rules, e.0); stack = search (rules, e.0, e.1) }
+    record { closes = search (rules, c.in_ok-level.ensures); after = search (rules, e.0); stack = search (rules, e.0, e.1) }
