@@ -104,3 +104,18 @@ quiet_told rxd (Start x) h = refl
 quiet_told rxd (Data x place) h = refl
 quiet_told rxd (Parity x) h = refl
 quiet_told rxd (Stop x) h = rw (lt-ltb 1 x.left (omega arith))
+
+-- what is left stays quiet
+pub quiet_rest : (p : Receiver) (n m : ℕ) → n + m ≤ quiet_ticks p → m ≤ quiet_ticks (lessened n p)
+quiet_rest Idle n m h = omega arith
+quiet_rest (Start x) n m h = omega arith
+quiet_rest (Data x place) n m h = omega arith
+quiet_rest (Parity x) n m h = omega arith
+quiet_rest (Stop x) n m h = omega arith
+
+pub quiet_sound : (p : Receiver) (n : ℕ) → SoundReceiver p → n ≤ quiet_ticks p → SoundReceiver (lessened n p)
+quiet_sound Idle n sound h = sound
+quiet_sound (Start x) n sound h = (sound.0, omega arith, omega arith, sound.3)
+quiet_sound (Data x place) n sound h = ((sound.0.0, omega arith, omega arith, sound.0.3), sound.1)
+quiet_sound (Parity x) n sound h = (sound.0, omega arith, omega arith, sound.3)
+quiet_sound (Stop x) n sound h = (sound.0, omega arith, omega arith, sound.3)

@@ -8,3 +8,5 @@ pub mod Returned
 pub mod Sent
 pub mod Silent
 pub mod SoundForms
+pub mod SoundReceiving
+pub mod SoundSending

@@ -1,8 +1,8 @@
 -- The transmitter's ticks that only count.
-use Rattle.std.proofs.Common.{◌≡◌, ℕ, ◌-◌, ◌<◌, ◌≤◌, Bool, false, not, Option, sym, refl, ap, arith}
+use Rattle.std.proofs.Common.{◌≡◌, ℕ, ◌+◌, ◌-◌, ◌<◌, ◌≤◌, Bool, false, not, Option, sym, refl, ap, arith}
 use Rattle.std.proofs.lemmas.Bool.{lt-ltb}
 use Rattle.timing.specs.Run.{times}
-use Rattle.serial.specs.Sending.{SoundPhase, ending, lasting, lessened, quiet_ticks, ticked}
+use Rattle.serial.specs.Sending.{SoundPhase, ending, idle, lasting, lessened, level, quiet_ticks, ticked}
 use Rattle.serial.specs.declared.form.Form.{Form}
 use Rattle.serial.specs.declared.transmitter.Sending.{Sending}
 use Rattle.serial.specs.Sending.{Phase}
@@ -44,3 +44,34 @@ quiet_ending (Start s) h = refl
 quiet_ending (Data s place) h = refl
 quiet_ending (Parity s) h = refl
 quiet_ending (Stop s) h = ap not (lt-ltb 1 s.left (omega arith))
+
+-- what is left stays quiet
+pub quiet_rest : (p : Phase) (n m : ℕ) → n + m ≤ quiet_ticks p → m ≤ quiet_ticks (lessened n p)
+quiet_rest Idle n m h = omega arith
+quiet_rest (Start s) n m h = omega arith
+quiet_rest (Data s place) n m h = omega arith
+quiet_rest (Parity s) n m h = omega arith
+quiet_rest (Stop s) n m h = omega arith
+
+-- TxD stays as it is
+pub quiet_level : (p : Phase) (n : ℕ) → level (lessened n p) ≡ level p
+quiet_level Idle n = refl
+quiet_level (Start s) n = refl
+quiet_level (Data s place) n = refl
+quiet_level (Parity s) n = refl
+quiet_level (Stop s) n = refl
+
+-- and so does TRE
+pub quiet_idle : (p : Phase) (n : ℕ) → idle (lessened n p) ≡ idle p
+quiet_idle Idle n = refl
+quiet_idle (Start s) n = refl
+quiet_idle (Data s place) n = refl
+quiet_idle (Parity s) n = refl
+quiet_idle (Stop s) n = refl
+
+pub quiet_sound : (p : Phase) (n : ℕ) → SoundPhase p → n ≤ quiet_ticks p → SoundPhase (lessened n p)
+quiet_sound Idle n sound h = sound
+quiet_sound (Start s) n sound h = (sound.0, omega arith, omega arith)
+quiet_sound (Data s place) n sound h = ((sound.0.0, omega arith, omega arith), sound.1)
+quiet_sound (Parity s) n sound h = (sound.0, omega arith, omega arith)
+quiet_sound (Stop s) n sound h = (sound.0, omega arith, omega arith)

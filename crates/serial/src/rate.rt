@@ -7,6 +7,11 @@ const BAUD: [u32; 16] = [
     0, 0, 0, 19200, 9600, 4800, 2400, 1200, 600, 300, 200, 150, 110, 100, 75, 50,
 ];
 
+/// How many ticks an idle part may be skipped at once, and so its horizon.
+// An `Option` is no plainer: the rule of a horizon names this cap, callers take the least of several, and no skip is longer. The
+// crate timers has the same cap; it is not in timing, the crate below both, which knows no horizon.
+pub const FAR: u64 = 16_777_216;
+
 /// What each internal clock adds to the rate's remainder: baud times the ticks to a bit.
 pub fn rate_step(command2: u8) -> u32
     ensures value { result ≡ rate_step command2 }

@@ -2,10 +2,7 @@
 ghost use Rattle.std.specs.Prelude.{◌≡◌, ℕ, ◌-◌};
 ghost use Rattle.serial.specs.Stages.{quiet_in, lessened_in};
 
-// The horizon where nothing is under way. An `Option` is no plainer: the rule of a horizon names this cap, callers take the least
-// of several, and no skip is longer. The crate timers has the same cap; it is not in timing,
-// the crate below both, which knows no horizon.
-const FAR: u64 = 16_777_216;
+use crate::rate::FAR;
 
 /// A frame in one of its stages, which lasts so many ticks more.
 pub(crate) trait Lasting: Copy {
