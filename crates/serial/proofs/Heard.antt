@@ -97,7 +97,11 @@ quiet_silence w p n k sound h = (quiet_heard w p n sound h).silent k
 
 -- ---- for callers that reason over many ticks
 
--- a quiet tick tells nothing
+-- a quiet tick takes one off
+pub quiet_tick : (rxd : Bool) (p : Receiver) → SoundReceiver p → 1 ≤ quiet_ticks p → passed rxd p ≡ lessened 1 p
+quiet_tick rxd p sound h = (quiet_heard (λ k. rxd) p 1 sound h).state
+
+-- and tells nothing
 pub quiet_told : (rxd : Bool) (p : Receiver) → 1 ≤ quiet_ticks p → told rxd p ≡ None
 quiet_told rxd Idle h = refl
 quiet_told rxd (Start x) h = refl

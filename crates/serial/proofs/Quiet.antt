@@ -37,6 +37,10 @@ module _ (form : Form) (cts : Bool) (b : Option ℕ) where
 
 -- ---- for callers that reason over many ticks
 
+-- a quiet tick takes one off
+pub quiet_tick : (form : Form) (cts : Bool) (b : Option ℕ) (p : Phase) → SoundPhase p → 1 ≤ quiet_ticks p → ticked form cts (holding b p) ≡ holding b (lessened 1 p)
+quiet_tick form cts b p sound h = sym (lessens form cts b p 1 sound h)
+
 -- no quiet tick is a frame's last
 pub quiet_ending : (p : Phase) → 1 ≤ quiet_ticks p → ending p ≡ false
 quiet_ending Idle h = refl

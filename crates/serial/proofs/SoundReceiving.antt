@@ -15,6 +15,9 @@ abbrev pub SoundEvent : Event → Type 0
 SoundEvent (Fall form) = SoundForm form
 SoundEvent (Tick rxd) = Unit {0}
 
+pub idle_sound : SoundReceiver Idle
+idle_sound = tt
+
 -- one tick fewer is left, where it is not the last
 fewer : (x : Receiving) (n : ℕ) → SoundReceiving x n → ltb 1 x.left ≡ true → SoundReceiving (lasting (x.left - 1) x) n
 fewer x n sound e = (sound.0, omega (arith, ltb-true 1 x.left e), omega arith, sound.3)
@@ -31,7 +34,7 @@ pub passed_sound : (rxd : Bool) (r : Receiver) → SoundReceiver r → SoundRece
 passed_sound rxd Idle sound = sound
 passed_sound rxd (Start x) sound =
     cond_both (ltb 1 x.left) (Start (lasting (x.left - 1) x)) _ SoundReceiver (λ e. fewer x 0 sound e)
-    (λ e. cond_both rxd Idle (Data (bit_long x) 0) SoundReceiver (λ _. tt) (λ _. ((sound.0, omega arith, omega arith, sound.3), omega arith)))
+    (λ e. cond_both rxd Idle (Data (bit_long x) 0) SoundReceiver (λ _. idle_sound) (λ _. ((sound.0, omega arith, omega arith, sound.3), omega arith)))
 passed_sound rxd (Data x place) sound =
     cond_both (ltb 1 x.left) (Data (lasting (x.left - 1) x) place) (past_bit (with_bit place rxd x) place) SoundReceiver
     (λ e. (fewer x place sound.0 e, sound.1))
@@ -40,7 +43,7 @@ passed_sound rxd (Parity x) sound =
     cond_both (ltb 1 x.left) (Parity (lasting (x.left - 1) x)) (Stop (with_parity rxd x)) SoundReceiver (λ e. fewer x x.form.length sound e)
     (λ e. (sound.0, omega arith, omega arith, sound.3))
 passed_sound rxd (Stop x) sound =
-    cond_both (ltb 1 x.left) (Stop (lasting (x.left - 1) x)) Idle SoundReceiver (λ e. fewer x x.form.length sound e) (λ e. tt)
+    cond_both (ltb 1 x.left) (Stop (lasting (x.left - 1) x)) Idle SoundReceiver (λ e. fewer x x.form.length sound e) (λ e. idle_sound)
 
 pub heard_sound : (event : Event) (r : Receiver) → SoundEvent event → SoundReceiver r → SoundReceiver (heard event r)
 heard_sound (Tick rxd) r good sound = passed_sound rxd r sound

@@ -16,9 +16,12 @@ short_stops One s = omega arith
 short_stops OneAndHalf s = omega arith
 short_stops Two s = omega arith
 
+pub idle_sound : SoundPhase Idle
+idle_sound = tt
+
 pub offered_sound : (form : Form) (cts : Bool) (b : Option ℕ) → SoundForm form → SoundTransmitter (offered form cts b)
-offered_sound form cts None sound = tt
-offered_sound form true (Some c) sound = tt
+offered_sound form cts None sound = idle_sound
+offered_sound form true (Some c) sound = idle_sound
 offered_sound form false (Some c) sound = (sound, omega arith, omega arith)
 
 pub stopping_sound : (s : Sending) → SoundSending s → SoundPhase (stopping s)
@@ -44,7 +47,7 @@ passed_sound (Data s place) sound =
     cond_both (ltb 1 s.left) (Data (lasting (s.left - 1) s) place) (past_bit s place) SoundPhase (λ e. (fewer s sound.0 e, sound.1)) (λ e. past_bit_sound s place sound.0)
 passed_sound (Parity s) sound =
     cond_both (ltb 1 s.left) (Parity (lasting (s.left - 1) s)) (stopping s) SoundPhase (λ e. fewer s sound e) (λ e. stopping_sound s sound)
-passed_sound (Stop s) sound = cond_both (ltb 1 s.left) (Stop (lasting (s.left - 1) s)) Idle SoundPhase (λ e. fewer s sound e) (λ e. tt)
+passed_sound (Stop s) sound = cond_both (ltb 1 s.left) (Stop (lasting (s.left - 1) s)) Idle SoundPhase (λ e. fewer s sound e) (λ e. idle_sound)
 
 pub ticked_sound : (form : Form) (cts : Bool) (t : Transmitter) → SoundForm form → SoundTransmitter t → SoundTransmitter (ticked form cts t)
 ticked_sound form cts t good sound =
