@@ -21,7 +21,9 @@ pub struct Reading {
 }
 
 // INT is high exactly when a level is ready. Here and below a function over the two records shows in its signature that a read
-// changes only the second, and one struct of both would be the stand-in again.
+// changes only the second, and one struct of both would be the stand-in again. It is asked at each clock and each read of the
+// status; built into both, it leaves a read of any register nothing to save.
+#[inline(always)]
 pub fn interrupts(rest: &Rest, sensitive: &Sensitive) -> bool
     ensures { result ≡ int_high rest.now sensitive.now }
 {
